@@ -21,7 +21,7 @@ use Rattle.schedule_commands.proofs.ReplayEndings.{replay_caused, replay_apart}
 use Rattle.schedule_commands.proofs.GenerateEndings.{generate_caused, generate_apart}
 use Rattle.edge.specs.Said.{IsTroubleStatus}
 use Rattle.edge.proofs.Statuses.{yield_range}
-use Rattle.commands.specs.Answers.{Answer, Fact, Belongs, too_large, ended, IsExactStatus}
+use Rattle.commands.specs.Answers.{CommandAnswer, Fact, Belongs, too_large, ended, IsExactStatus}
 
 -- `check`: each ending has its fact, and one alone
 refused_fact : (file : List ℕ) (ending : Ending) → RefusedAs file ending → CheckFact file ending
@@ -128,7 +128,7 @@ derive_caused file _ _ (not_accepted_derive {ending = ending} {line = line} is) 
 derive_caused file _ _ (derived tree P is does) = (tree, P, is, does.least.accepted)
 
 -- all rows
-caused : (command : Command) (files : List (List ℕ)) (ending : Ending) (text : List ℕ) → Answer command files ending text → Fact command files ending
+caused : (command : Command) (files : List (List ℕ)) (ending : Ending) (text : List ℕ) → CommandAnswer command files ending text → Fact command files ending
 caused Check files ending text is = check_caused (file_at files 0) ending text is
 caused Print files ending text is = print_caused (file_at files 0) ending text is
 caused Run files ending text is = run_caused (file_at files 0) (file_at files 1) ending text is

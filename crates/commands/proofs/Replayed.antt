@@ -6,7 +6,7 @@ use Rattle.lexer.specs.Limits.{longest_source}
 use Rattle.sources.specs.Limits.{longest_second_file}
 use Rattle.classes.specs.Table.{table_of}
 use Rattle.core_program.specs.Core.{Program}
-use Rattle.replay.specs.Records.{IsTooDeep}
+use Rattle.replay.specs.Records.{IsFirstTooDeep}
 use Rattle.reduction.specs.SerialSchedules.{IsSerial}
 use Rattle.rules.specs.Rules.{IsAccepted}
 use Rattle.schedule.proofs.UniqueLemmas.{one_schedule}
@@ -65,7 +65,7 @@ module _ (call : Call) where
         order = written_order Q r;
         is_order = order_is file text t tree Q P r s p q input source schedule went runs serial;
         entry = entry;
-        deep = subst (λ R. IsTooDeep R (written_order Q r) entry) program is;
+        deep = subst (λ R. IsFirstTooDeep R (written_order Q r) entry) program is;
         written = wrote;
       })
   written_calls file text _ _ (replayed t Q r p input accepted went outside is) status wrote tree P s q source fits schedule runs closed =

@@ -10,8 +10,8 @@ use Rattle.commands.proofs.OneRow.{one_row}
 use Rattle.commands.specs.Files.{IsAskedRow, AreBounded}
 use Rattle.commands.specs.Reading.{AreTheirs, HasSameFaults}
 use Rattle.edge.specs.Said.{IsTroubleStatus, SaysText}
-use Rattle.commands.specs.Answers.{Answer, Belongs, too_large, ended, IsExactStatus}
-use Rattle.commands.specs.Said.{IsUnread, WritesUnread, WritesTooLarge, WritesAnswer, WritesAnswerToBytes, WritesFront, BelongsToBytes, WritesFrontToBytes}
+use Rattle.commands.specs.Answers.{CommandAnswer, Belongs, too_large, ended, IsExactStatus}
+use Rattle.commands.specs.Said.{IsLineOfUnread, WritesUnread, WritesTooLarge, WritesAnswer, WritesAnswerToBytes, WritesFront, BelongsToBytes, WritesFrontToBytes}
 use Rattle.commands.specs.Commands.{exit_status}
 use Rattle.commands.specs.Outcomes.{IsCommandAnswer, IsOutcome}
 use Rattle.commands.proofs.Endings.{exact_answer, exact_yield, no_ending}
@@ -30,7 +30,7 @@ other_than_seven row told before now Usage text is e = is
 record IsGiven (row : Row) (told : List ℕ → Option (List ℕ)) (files : List (List ℕ)) (ending : Ending) (text : List ℕ) : Type 0 where
   theirs : AreTheirs told row.names files
   bounded : AreBounded (limits_of row.command) files
-  answer : Answer row.command files ending text
+  answer : CommandAnswer row.command files ending text
 
 given : (row : Row) (told : List ℕ → Option (List ℕ)) (before now : List ℕ → ℕ) (ending : Ending) (text : List ℕ) (is : IsCommandAnswer row told before now ending text) → IsGiven row told is.files ending text
 given row told before now ending text is = record { theirs = is.read.theirs; bounded = is.read.bounded; answer = is.answer }
@@ -115,7 +115,7 @@ module _ (words : List (List ℕ)) (result : ℕ) (told : List ℕ → Option (L
   pub cut_short : (row : Row) → IsRow words row → result ≡ 7 → WritesFrontToBytes row told before now old new
   cut_short row is seven = by d.said
     where
-      belongs : (status : Status) → IsOutcome row told before now status d.text → IsUnread row told before now d.text ⊎ BelongsToBytes row told d.text
+      belongs : (status : Status) → IsOutcome row told before now status d.text → IsLineOfUnread row told before now d.text ⊎ BelongsToBytes row told d.text
       belongs CannotRead is = inl is
       belongs (Ended ending) is = inr (record { files = is.files; theirs = is.read.theirs; status = code_of ending; belongs = answer_belongs row is.files ending (given row told before now ending d.text is) })
       belongs TooLarge is =
@@ -131,10 +131,10 @@ module _ (words : List (List ℕ)) (result : ℕ) (told : List ℕ → Option (L
 
   module _ (row : Row) (files : List (List ℕ)) (asked : IsAskedRow words told row files) where
     -- the line of a file that can't be read, or what belongs to the files
-    its : (IsUnread row told before now d.text × (exit_status d.status ≡ 6)) ⊎ Belongs row files (exit_status d.status) d.text
+    its : (IsLineOfUnread row told before now d.text × (exit_status d.status ≡ 6)) ⊎ Belongs row files (exit_status d.status) d.text
     its = by d.status (subst (λ r. IsOutcome r told before now d.status d.text) (one_row words d.row row d.is_row asked.is_row) d.outcome)
       where
-        by : (status : Status) → IsOutcome row told before now status d.text → (IsUnread row told before now d.text × (exit_status status ≡ 6)) ⊎ Belongs row files (exit_status status) d.text
+        by : (status : Status) → IsOutcome row told before now status d.text → (IsLineOfUnread row told before now d.text × (exit_status status ≡ 6)) ⊎ Belongs row files (exit_status status) d.text
         by CannotRead is = inl (is, refl)
         by (Ended ending) is = inr (answer_belongs row files ending (subst (λ fs. IsGiven row told fs ending d.text) (theirs_told told row.names files is.files asked.are_told is.read.theirs) (given row told before now ending d.text is)))
         by TooLarge is = inr (subst (Belongs row files 10) (sym is.says) (too_large is.name (over_first told before now (limits_of row.command) row.names files is.name asked.are_told is.first)))
@@ -145,7 +145,7 @@ module _ (words : List (List ℕ)) (result : ℕ) (told : List ℕ → Option (L
     pub answered : IsTroubleStatus result ⊎ WritesAnswer row files result old new
     answered = by d.said its
       where
-        by : SaysText result (exit_status d.status) d.text old new sink_before sink_now → (IsUnread row told before now d.text × (exit_status d.status ≡ 6)) ⊎ Belongs row files (exit_status d.status) d.text → IsTroubleStatus result ⊎ WritesAnswer row files result old new
+        by : SaysText result (exit_status d.status) d.text old new sink_before sink_now → (IsLineOfUnread row told before now d.text × (exit_status d.status ≡ 6)) ⊎ Belongs row files (exit_status d.status) d.text → IsTroubleStatus result ⊎ WritesAnswer row files result old new
         by (inr s) a = inl (inr (inl s.0))
         by (inl s) (inl six) = inl (inl (s.0 ∙ six.1))
         by (inl s) (inr a) = inr (record { text = d.text; belongs = subst (λ n. Belongs row files n d.text) (sym s.0) a; written = s.1 })
@@ -160,18 +160,18 @@ module _ (words : List (List ℕ)) (result : ℕ) (told : List ℕ → Option (L
     pub front : result ≡ 7 → WritesFront row files told before now old new
     front seven = by d.said its
       where
-        belongs : (IsUnread row told before now d.text × (exit_status d.status ≡ 6)) ⊎ Belongs row files (exit_status d.status) d.text → IsUnread row told before now d.text ⊎ Belongs row files (exit_status d.status) d.text
+        belongs : (IsLineOfUnread row told before now d.text × (exit_status d.status ≡ 6)) ⊎ Belongs row files (exit_status d.status) d.text → IsLineOfUnread row told before now d.text ⊎ Belongs row files (exit_status d.status) d.text
         belongs (inl a) = inl a.0
         belongs (inr a) = inr a
 
-        by : SaysText result (exit_status d.status) d.text old new sink_before sink_now → (IsUnread row told before now d.text × (exit_status d.status ≡ 6)) ⊎ Belongs row files (exit_status d.status) d.text → WritesFront row files told before now old new
+        by : SaysText result (exit_status d.status) d.text old new sink_before sink_now → (IsLineOfUnread row told before now d.text × (exit_status d.status ≡ 6)) ⊎ Belongs row files (exit_status d.status) d.text → WritesFront row files told before now old new
         by (inl s) a = absurd (other_than_seven d.row told before now d.status d.text d.outcome (sym s.0 ∙ seven))
         by (inr s) a = record { status = exit_status d.status; text = d.text; belongs = belongs a; written = s.1 }
 
     pub complete : ((name : List ℕ) → Contains row.names name → Rose (before name) (now name) → ⊥) → (Rose sink_before sink_now → ⊥) → (result ≡ 8) ⊎ WritesAnswer row files result old new
     complete calm sink_calm = by d.said its
       where
-        by : SaysText result (exit_status d.status) d.text old new sink_before sink_now → (IsUnread row told before now d.text × (exit_status d.status ≡ 6)) ⊎ Belongs row files (exit_status d.status) d.text → (result ≡ 8) ⊎ WritesAnswer row files result old new
+        by : SaysText result (exit_status d.status) d.text old new sink_before sink_now → (IsLineOfUnread row told before now d.text × (exit_status d.status ≡ 6)) ⊎ Belongs row files (exit_status d.status) d.text → (result ≡ 8) ⊎ WritesAnswer row files result old new
         by (inr s) a = absurd (sink_calm s.2)
         by (inl s) (inl six) = absurd (calm six.0.name (unread_named told before now (limits_of row.command) row.names six.0.name six.0.first) six.0.first.rose)
         by (inl s) (inr a) = inr (record { text = d.text; belongs = subst (λ n. Belongs row files n d.text) (sym s.0) a; written = s.1 })

@@ -23,19 +23,19 @@ use Rattle.evidence_commands.specs.Levels.{LevelsAnswer, LevelsFact}
 use Rattle.schedule_commands.specs.Replay.{ReplayAnswer, ReplayFact}
 
 -- the texts that belong to each ending of a command
-abbrev pub Answer : Command → List (List ℕ) → Ending → List ℕ → Type 0
-Answer Check files = CheckAnswer (file_at files 0)
-Answer Print files = PrintAnswer (file_at files 0)
-Answer Run files = RunAnswer (file_at files 0) (file_at files 1)
-Answer Serialise files = SerialiseAnswer (file_at files 0) (file_at files 1)
-Answer Derive files = DeriveAnswer (file_at files 0)
-Answer Verify files = VerifyAnswer (file_at files 0) (file_at files 1)
-Answer SerialiseOpen files = SerialiseOpenAnswer (file_at files 0) (file_at files 1)
-Answer Blame files = BlameAnswer (file_at files 0)
-Answer VerifyBlame files = VerifyBlameAnswer (file_at files 0) (file_at files 1)
-Answer Levels files = LevelsAnswer (file_at files 0) (file_at files 1)
-Answer Replay files = ReplayAnswer (file_at files 0) (file_at files 1)
-Answer (Generate n) files = GenerateAnswer n
+abbrev pub CommandAnswer : Command → List (List ℕ) → Ending → List ℕ → Type 0
+CommandAnswer Check files = CheckAnswer (file_at files 0)
+CommandAnswer Print files = PrintAnswer (file_at files 0)
+CommandAnswer Run files = RunAnswer (file_at files 0) (file_at files 1)
+CommandAnswer Serialise files = SerialiseAnswer (file_at files 0) (file_at files 1)
+CommandAnswer Derive files = DeriveAnswer (file_at files 0)
+CommandAnswer Verify files = VerifyAnswer (file_at files 0) (file_at files 1)
+CommandAnswer SerialiseOpen files = SerialiseOpenAnswer (file_at files 0) (file_at files 1)
+CommandAnswer Blame files = BlameAnswer (file_at files 0)
+CommandAnswer VerifyBlame files = VerifyBlameAnswer (file_at files 0) (file_at files 1)
+CommandAnswer Levels files = LevelsAnswer (file_at files 0) (file_at files 1)
+CommandAnswer Replay files = ReplayAnswer (file_at files 0) (file_at files 1)
+CommandAnswer (Generate n) files = GenerateAnswer n
 
 -- when a command ends how
 abbrev pub Fact : Command → List (List ℕ) → Ending → Type 0
@@ -55,7 +55,7 @@ Fact (Generate n) files = GenerateFact n
 -- the status and the text that belong to a row and the bytes of its files
 pub data Belongs (row : Row) (files : List (List ℕ)) : ℕ → List ℕ → Type 0 where
   too_large : (name : List ℕ) → first_too_large row files ≡ Some name → Belongs row files 10 (too_large_line name)
-  ended : (ending : Ending) (text : List ℕ) → AreWithin row files → Answer row.command files ending text → Belongs row files (code_of ending) text
+  ended : (ending : Ending) (text : List ℕ) → AreWithin row files → CommandAnswer row.command files ending text → Belongs row files (code_of ending) text
 
 -- which status comes for a row and the bytes of its files
 pub record IsExactStatus (row : Row) (files : List (List ℕ)) (result : ℕ) : Type 0 where

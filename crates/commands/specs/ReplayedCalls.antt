@@ -8,7 +8,7 @@ use Rattle.lexer.specs.Limits.{longest_source}
 use Rattle.sources.specs.Limits.{longest_second_file}
 use Rattle.classes.specs.Table.{TableData, table_of}
 use Rattle.core_program.specs.Core.{Program}
-use Rattle.replay.specs.Records.{Told, IsTooDeep}
+use Rattle.replay.specs.Records.{Told, IsFirstTooDeep}
 use Rattle.rules.specs.Rules.{IsAccepted}
 use Rattle.schedule.specs.Text.{IsSchedule}
 use Rattle.sources.specs.Checking.{IsWellFormedSource}
@@ -44,7 +44,7 @@ pub record NamesDeep (call : Call) (P : Program) (s : List ℕ) (q : State) : Ty
   pub order : List ℕ
   pub is_order : IsOrderOf P s q order
   pub entry : ℕ
-  pub deep : IsTooDeep P order entry
+  pub deep : IsFirstTooDeep P order entry
   pub written : Appends call.written_before call.written_after (too_deep_call_line entry)
 
 -- what `replay` writes for an accepted source and a schedule that runs on it

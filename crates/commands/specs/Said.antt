@@ -8,7 +8,7 @@ use Rattle.commands.specs.Reading.{AreTheirs, IsFirstUnread, IsFirstOver}
 use Rattle.commands.specs.Answers.{Belongs}
 
 -- the line of the first file of the row that couldn't be read
-pub record IsUnread (row : Row) (told : List ℕ → Option (List ℕ)) (before now : List ℕ → ℕ) (line : List ℕ) : Type 0 where
+pub record IsLineOfUnread (row : Row) (told : List ℕ → Option (List ℕ)) (before now : List ℕ → ℕ) (line : List ℕ) : Type 0 where
   pub name : List ℕ
   pub first : IsFirstUnread told before now (limits_of row.command) row.names name
   pub says : line ≡ cannot_read_line name
@@ -16,7 +16,7 @@ pub record IsUnread (row : Row) (told : List ℕ → Option (List ℕ)) (before 
 -- such a line was written
 pub record WritesUnread (row : Row) (told : List ℕ → Option (List ℕ)) (before now : List ℕ → ℕ) (old new : Option (List ℕ)) : Type 0 where
   pub line : List ℕ
-  pub unread : IsUnread row told before now line
+  pub unread : IsLineOfUnread row told before now line
   pub written : Appends old new line
 
 -- the line of the first file of the row that has more bytes than it may have
@@ -48,7 +48,7 @@ pub record WritesAnswerToBytes (row : Row) (told : List ℕ → Option (List ℕ
 pub record WritesFront (row : Row) (files : List (List ℕ)) (told : List ℕ → Option (List ℕ)) (before now : List ℕ → ℕ) (old new : Option (List ℕ)) : Type 0 where
   pub status : ℕ
   pub text : List ℕ
-  pub belongs : IsUnread row told before now text ⊎ Belongs row files status text
+  pub belongs : IsLineOfUnread row told before now text ⊎ Belongs row files status text
   pub written : AppendsFront old new text
 
 -- the text belongs to the row, some status, and bytes of the files, which are those that are told where the folder tells a file
@@ -61,5 +61,5 @@ pub record BelongsToBytes (row : Row) (told : List ℕ → Option (List ℕ)) (t
 -- a front was written of such a text, or of the line of a file that couldn't be read
 pub record WritesFrontToBytes (row : Row) (told : List ℕ → Option (List ℕ)) (before now : List ℕ → ℕ) (old new : Option (List ℕ)) : Type 0 where
   pub text : List ℕ
-  pub belongs : IsUnread row told before now text ⊎ BelongsToBytes row told text
+  pub belongs : IsLineOfUnread row told before now text ⊎ BelongsToBytes row told text
   pub written : AppendsFront old new text

@@ -9,7 +9,7 @@ ghost use Rattle.commands.specs.Lines.{usage_line};
 ghost use Rattle.commands.specs.Rows.{Row, IsRow, IsNoRow, IsWithin, limits_of};
 ghost use Rattle.commands.specs.Files.{IsAskedRow, AreBounded};
 ghost use Rattle.edge.specs.Said.{IsTroubleStatus, SaysText};
-ghost use Rattle.commands.specs.Answers.{Answer, IsExactStatus};
+ghost use Rattle.commands.specs.Answers.{CommandAnswer, IsExactStatus};
 ghost use Rattle.commands.specs.Reading.{HasSameFaults};
 ghost use Rattle.commands.specs.Said.{WritesUnread, WritesTooLarge, WritesAnswer, WritesAnswerToBytes, WritesFront, WritesFrontToBytes};
 ghost use Rattle.commands.specs.Commands.{row_of_words, exit_status};
@@ -43,7 +43,7 @@ struct Outcome {
 fn answer(alloc: Global, command: Command, files: &[Vec<u8>]) -> Result<Vec<u8>, Refusal>
     requires within { IsWithin command }
     requires bounded { AreBounded (limits_of command) (map (λ file. file.items) files.now) }
-    ensures { MatchResult result (λ text. Answer command (map (λ file. file.items) files.now) Ending.Done text.items) (IsRight (Answer command (map (λ file. file.items) files.now))) }
+    ensures { MatchResult result (λ text. CommandAnswer command (map (λ file. file.items) files.now) Ending.Done text.items) (IsRight (CommandAnswer command (map (λ file. file.items) files.now))) }
 {
     match command {
         Command::Check => check(alloc, file_at(files, 0)),
@@ -65,7 +65,7 @@ fn answer(alloc: Global, command: Command, files: &[Vec<u8>]) -> Result<Vec<u8>,
 fn ended(alloc: Global, command: Command, files: &[Vec<u8>]) -> Result<Outcome, NoMemory>
     requires within { IsWithin command }
     requires bounded { AreBounded (limits_of command) (map (λ file. file.items) files.now) }
-    ensures { IfOk result (λ o. (ending : EndingData) × (o.status ≡ Status.Ended ending) × Answer command (map (λ file. file.items) files.now) ending o.text.items) }
+    ensures { IfOk result (λ o. (ending : EndingData) × (o.status ≡ Status.Ended ending) × CommandAnswer command (map (λ file. file.items) files.now) ending o.text.items) }
 {
     match answer(alloc, command, files) {
         Ok(text) => Ok(Outcome {

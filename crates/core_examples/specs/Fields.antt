@@ -14,8 +14,8 @@ abbrev pub path : ℕ → List ℕ → PathData
 path root fields = record { root = root; fields = fields }
 
 -- a field of the class at this index
-abbrev pub field_of : (index : ℕ) → (is_final : Bool) → CoreType → Option PathData → (writes_only : Bool) → Field
-field_of index is_final ty guard writes_only =
+abbrev pub field_at_index : (index : ℕ) → (is_final : Bool) → CoreType → Option PathData → (writes_only : Bool) → Field
+field_at_index index is_final ty guard writes_only =
     record { class = 0; index = index; is_final = is_final; ty = ty; guard = guard; writes_only = writes_only }
 
 -- the type `Node`
@@ -25,14 +25,14 @@ node_type = type.Class 0
 -- the fields of the class `Node`: `left`, `next`, `size`, `right`, `v`, `w`, `x` and `y`
 abbrev pub node_fields : List Field
 node_fields =
-    field_of 0 true node_type None false
-    ∷ field_of 1 false node_type None false
-    ∷ field_of 2 true type.Int None false
-    ∷ field_of 3 true node_type None false
-    ∷ field_of 4 false type.Int (Some (path 0 [])) false
-    ∷ field_of 5 false type.Int (Some (path 0 (0 ∷ []))) false
-    ∷ field_of 6 false type.Int (Some (path 0 (0 ∷ []))) true
-    ∷ field_of 7 false type.Int (Some (path 0 (0 ∷ 3 ∷ []))) false ∷ []
+    field_at_index 0 true node_type None false
+    ∷ field_at_index 1 false node_type None false
+    ∷ field_at_index 2 true type.Int None false
+    ∷ field_at_index 3 true node_type None false
+    ∷ field_at_index 4 false type.Int (Some (path 0 [])) false
+    ∷ field_at_index 5 false type.Int (Some (path 0 (0 ∷ []))) false
+    ∷ field_at_index 6 false type.Int (Some (path 0 (0 ∷ []))) true
+    ∷ field_at_index 7 false type.Int (Some (path 0 (0 ∷ 3 ∷ []))) false ∷ []
 
 -- the class `Node` as a program, with an empty method
 abbrev pub nodes : Program

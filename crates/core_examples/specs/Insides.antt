@@ -8,12 +8,12 @@ use Rattle.state.specs.States.{Frame, Thread, Ready, State}
 use Rattle.core_examples.specs.Seen.{here}
 
 -- a frame of the annotated method `inc`
-abbrev pub called : Frame
-called = record { method = 0; slots = Ref here ∷ []; operands = []; work = [] }
+abbrev pub called_frame : Frame
+called_frame = record { method = 0; slots = Ref here ∷ []; operands = []; work = [] }
 
 -- a frame of `run`, which isn't annotated
-abbrev pub calling : Frame
-calling = record { method = 1; slots = Ref here ∷ []; operands = []; work = [] }
+abbrev pub calling_frame : Frame
+calling_frame = record { method = 1; slots = Ref here ∷ []; operands = []; work = [] }
 
 -- a state with these threads
 abbrev pub with_threads : List Thread → State

@@ -9,12 +9,12 @@ use Rattle.core_examples.specs.Fields.{path, node_type, node_fields, of_this}
 use Rattle.core_examples.specs.Family.{free_field}
 
 -- a final local or parameter of the slot 1
-abbrev pub first : Expr
-first = VarE 1 true node_type
+abbrev pub final_slot : Expr
+final_slot = VarE 1 true node_type
 
 -- a call without arguments, as a statement
-abbrev pub call : Expr → ℕ → Stmt
-call e m = DoS (CallE e m no_exprs) false
+abbrev pub call_stmt : Expr → ℕ → Stmt
+call_stmt e m = DoS (CallE e m no_exprs) false
 
 -- a method without a parameter, and one with a final parameter
 abbrev pub of_node : Stmt → Method
@@ -51,11 +51,11 @@ meetings = record {
       ∷ of_node (SyncS (path 0 (0 ∷ [])) EmptyS)
       ∷ of_node put_one
       ∷ of_node (PrintS (of_this 6))
-      ∷ of_one (BlockS (and_stmt (call (of_this 3) 1) (and_stmt (DoS (CallE ThisE 0 (and_expr first no_exprs)) false) (and_stmt (call (of_this 1) 2) no_stmts))))
-      ∷ record (of_node (BlockS (and_stmt (LocalS 1 true node_type (of_this 0)) (and_stmt (SetFieldS first 4 (IntE (pos 1))) no_stmts)))) { slots = 2 }
+      ∷ of_one (BlockS (and_stmt (call_stmt (of_this 3) 1) (and_stmt (DoS (CallE ThisE 0 (and_expr final_slot no_exprs)) false) (and_stmt (call_stmt (of_this 1) 2) no_stmts))))
+      ∷ record (of_node (BlockS (and_stmt (LocalS 1 true node_type (of_this 0)) (and_stmt (SetFieldS final_slot 4 (IntE (pos 1))) no_stmts)))) { slots = 2 }
       ∷ of_node EmptyS
-      ∷ of_node (BlockS (and_stmt (call (GetE (of_this 0) 3) 1) (and_stmt (call ThisE 5) no_stmts)))
-      ∷ of_node (BlockS (and_stmt (SyncS (path 0 []) EmptyS) (and_stmt (call (of_this 0) 8) no_stmts)))
+      ∷ of_node (BlockS (and_stmt (call_stmt (GetE (of_this 0) 3) 1) (and_stmt (call_stmt ThisE 5) no_stmts)))
+      ∷ of_node (BlockS (and_stmt (SyncS (path 0 []) EmptyS) (and_stmt (call_stmt (of_this 0) 8) no_stmts)))
       ∷ record (of_node (BlockS (and_stmt (SyncS (path 0 (0 ∷ [])) EmptyS) (and_stmt (SyncS (path 0 (8 ∷ [])) EmptyS) no_stmts)))) { class = 1 } ∷ [];
   main_class = 0;
   main = 6;
@@ -105,7 +105,7 @@ requiring_program body = record {
 
 -- `this.put();`
 abbrev pub call_put : Stmt
-call_put = call ThisE 0
+call_put = call_stmt ThisE 0
 
 -- `class A { void m() { } } class B extends A { int f; void m() { .. } }`
 -- `class Main { atomic void main() { final A a = new A(); a.m(); a.m(); } }`
@@ -116,7 +116,7 @@ overridden body = record {
       ∷ plain_class [] [] None 2 ∷ [];
   fields = free_field 1 0 ∷ [];
   methods = plain_method 0 0 false EmptyS ∷ plain_method 1 0 false body
-      ∷ record (plain_method 2 0 true (BlockS (and_stmt (LocalS 1 true node_type (NewE 0 no_exprs)) (and_stmt (call first 0) (and_stmt (call first 0) no_stmts))))) { slots = 2 } ∷ [];
+      ∷ record (plain_method 2 0 true (BlockS (and_stmt (LocalS 1 true node_type (NewE 0 no_exprs)) (and_stmt (call_stmt final_slot 0) (and_stmt (call_stmt final_slot 0) no_stmts))))) { slots = 2 } ∷ [];
   main_class = 2;
   main = 2;
 }

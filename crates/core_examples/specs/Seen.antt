@@ -88,12 +88,12 @@ abbrev pub does : Shared → List Value → Action → Outcome
 does see operands action = act four_fields see 0 (frame_with operands) [] rest action
 
 -- the frame goes on with these operands and this work, by a step of this kind with this change
-abbrev pub goes : StepKind → List Value → List Item → Change → Outcome
-goes kind operands work change = Moves (record { kind = kind; thread = Running (record (frame_with []) { operands = operands; work = work } ∷ []); change = change })
+abbrev pub goes_by : StepKind → List Value → List Item → Change → Outcome
+goes_by kind operands work change = Moves (record { kind = kind; thread = Running (record (frame_with []) { operands = operands; work = work } ∷ []); change = change })
 
 -- with these operands and nothing else
-abbrev pub gives : List Value → Outcome
-gives operands = goes Both operands rest Nothing
+abbrev pub gives_alone : List Value → Outcome
+gives_alone operands = goes_by Both operands rest Nothing
 
 -- the thread faults with the operands that it had
 abbrev pub faults_with : Fault → List Value → Outcome

@@ -24,12 +24,12 @@ abbrev pub three : Expr
 three = IntE (pos 3)
 
 -- the address of the thread 0's second object
-abbrev pub next : Address
-next = record { thread = 0; count = 1 }
+abbrev pub second_object : Address
+second_object = record { thread = 0; count = 1 }
 
 -- two objects of the thread 0 and one of the thread 1
 abbrev pub three_entries : List (Address × Object)
-three_entries = (here, object_of 0) ∷ (next, object_of 0) ∷ (there, object_of 1) ∷ []
+three_entries = (here, object_of 0) ∷ (second_object, object_of 0) ∷ (there, object_of 1) ∷ []
 
 -- these three objects as a heap
 abbrev pub three_objects : Heap

@@ -8,7 +8,7 @@ ghost use Rattle.state.specs.States.{Running, Done, Faulted};
 ghost use Rattle.state.specs.Work.{St, Act, Call, New, Ret, Start};
 ghost use Rattle.semantics.specs.Step.{Moves, Nothing, ObjectIs, Starts, act};
 ghost use Rattle.core_examples.specs.Judged.{meetings, put_one};
-ghost use Rattle.core_examples.specs.Seen.{four_fields, seven, minus_two, here, sees, does, goes, faults_with, frame_with, rest};
+ghost use Rattle.core_examples.specs.Seen.{four_fields, seven, minus_two, here, sees, does, goes_by, faults_with, frame_with, rest};
 
 /// A call hands its arguments on in order, and the receiver object's class chooses the method that runs.
 pub fn what_calls_do()
@@ -63,9 +63,9 @@ pub fn what_returns_do()
 /// A new object has the thread's next address, the arguments in its final fields and 0 in its other ones; a thread that is started has
 /// the `run` of the object's class, and the start is neither a right nor a left mover.
 pub fn what_new_things_are()
-    ensures object { does (sees 0 None) (seven ∷ minus_two ∷ []) (New 0) ≡ goes Both (Ref (record { thread = 0; count = 5 }) ∷ minus_two ∷ []) rest
+    ensures object { does (sees 0 None) (seven ∷ minus_two ∷ []) (New 0) ≡ goes_by Both (Ref (record { thread = 0; count = 5 }) ∷ minus_two ∷ []) rest
         (ObjectIs (record { thread = 0; count = 5 }) (record { class = 0; values = seven ∷ Int (pos 0) ∷ Int (pos 0) ∷ Int (pos 0) ∷ [] })) }
-    ensures thread { does (sees 0 None) (Ref here ∷ seven ∷ []) Start ≡ goes Other (seven ∷ []) rest (Starts here 0) }
+    ensures thread { does (sees 0 None) (Ref here ∷ seven ∷ []) Start ≡ goes_by Other (seven ∷ []) rest (Starts here 0) }
     ensures no_run { does (sees 1 None) (Ref here ∷ []) Start ≡ faults_with fault.Null (Ref here ∷ []) }
     ensures of_null { does (sees 0 None) (Null ∷ []) Start ≡ faults_with fault.Null (Null ∷ []) }
 {}

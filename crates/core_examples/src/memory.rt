@@ -10,7 +10,7 @@ ghost use Rattle.state.specs.Memory.{made_by, next_address, field_value, with_fi
 ghost use Rattle.state.specs.States.{Ready, new_slots, new_object, initial};
 ghost use Rattle.core_examples.specs.Fields.{nodes};
 ghost use Rattle.core_examples.specs.Seen.{two_parameters, four_fields, field_at, object_of, here, there, seven, minus_two, yes_value, no_value};
-ghost use Rattle.core_examples.specs.Small.{next, three_objects, lock_at};
+ghost use Rattle.core_examples.specs.Small.{second_object, three_objects, lock_at};
 
 /// The topmost operand comes first; a missing one is null, and one of another kind reads as 0, false or no address.
 pub fn what_operands_are()
@@ -31,7 +31,7 @@ pub fn what_operands_are()
     ensures address_of_a_number { address_of seven ≡ None }
     ensures same_address { address_eq here here ≡ true }
     ensures another_thread { address_eq here there ≡ false }
-    ensures another_count { address_eq here next ≡ false }
+    ensures another_count { address_eq here second_object ≡ false }
 {}
 
 /// Addresses are ordered by their threads, and then by their counts.
@@ -71,11 +71,11 @@ pub fn what_memory_holds()
     ensures made { made_by 0 three_objects ≡ 2 }
     ensures made_by_another { made_by 1 three_objects ≡ 1 }
     ensures made_by_none { made_by 2 three_objects ≡ 0 }
-    ensures in_the_heap { value_in four_fields three_objects next 1 ≡ Some (Int (pos 2)) }
+    ensures in_the_heap { value_in four_fields three_objects second_object 1 ≡ Some (Int (pos 2)) }
     ensures not_in_the_heap { value_in four_fields three_objects (record { thread = 2; count = 0 }) 1 ≡ None }
     ensures next { next_address 0 three_objects ≡ record { thread = 0; count = 2 } }
-    ensures field { with_field next 1 seven three_objects ≡
-        map.from_sorted ((here, object_of 0) ∷ (next, record { class = 0; values = Int (pos 1) ∷ seven ∷ Int (pos 3) ∷ Int (pos 4) ∷ [] }) ∷ (there, object_of 1) ∷ []) }
+    ensures field { with_field second_object 1 seven three_objects ≡
+        map.from_sorted ((here, object_of 0) ∷ (second_object, record { class = 0; values = Int (pos 1) ∷ seven ∷ Int (pos 3) ∷ Int (pos 4) ∷ [] }) ∷ (there, object_of 1) ∷ []) }
     ensures no_object { with_field (record { thread = 2; count = 0 }) 1 seven three_objects ≡ three_objects }
     ensures taken { with_lock here (Some (record { holder = 1; count = 2 })) (map.from_sorted (lock_at there)) ≡
         map.from_sorted ((here, record { holder = 1; count = 2 }) ∷ (there, record { holder = 1; count = 2 }) ∷ []) }

@@ -10,7 +10,7 @@ ghost use Rattle.state.specs.Work.{St, Act, Push, Store, Get, Put, New, Call, Re
 ghost use Rattle.semantics.specs.Step.{Moves, Absent, IsDone, HadFaulted, Nothing, FieldIs, ObjectIs, LockIs, Prints, Starts, act, turn, seen_by, outcome, changed, moved, step, kind_of, access_kind};
 ghost use Rattle.core_examples.specs.Fields.{nodes};
 ghost use Rattle.core_examples.specs.Seen.{four_fields, two_pairs, object_of, here, there, seven, sees, held_so_often, does, faults_with, frame_with, rest};
-ghost use Rattle.core_examples.specs.Small.{next, small, sees_two, sees_nothing};
+ghost use Rattle.core_examples.specs.Small.{second_object, small, sees_two, sees_nothing};
 
 /// A ready thread enters its method, a running one does its next action, and any other one has no step.
 pub fn what_a_turn_is()
@@ -32,18 +32,18 @@ pub fn what_a_turn_is()
 /// Each change is made to the state, and nothing besides.
 pub fn what_changes()
     ensures nothing { changed Nothing small ≡ small }
-    ensures field { changed (FieldIs next 1 seven) small ≡ record small {
-      heap = map.from_sorted ((here, object_of 0) ∷ (next, record { class = 0; values = Int (pos 1) ∷ seven ∷ Int (pos 3) ∷ Int (pos 4) ∷ [] }) ∷ (there, object_of 1) ∷ []);
+    ensures field { changed (FieldIs second_object 1 seven) small ≡ record small {
+      heap = map.from_sorted ((here, object_of 0) ∷ (second_object, record { class = 0; values = Int (pos 1) ∷ seven ∷ Int (pos 3) ∷ Int (pos 4) ∷ [] }) ∷ (there, object_of 1) ∷ []);
     } }
     ensures object { changed (ObjectIs (record { thread = 1; count = 1 }) (object_of 0)) small ≡ record small {
-      heap = map.from_sorted ((here, object_of 0) ∷ (next, object_of 0) ∷ (there, object_of 1) ∷ (record { thread = 1; count = 1 }, object_of 0) ∷ []);
+      heap = map.from_sorted ((here, object_of 0) ∷ (second_object, object_of 0) ∷ (there, object_of 1) ∷ (record { thread = 1; count = 1 }, object_of 0) ∷ []);
     } }
     ensures lock { changed (LockIs here (held_so_often 2 1)) small ≡ record small {
       locks = map.from_sorted ((here, record { holder = 2; count = 1 }) ∷ (there, record { holder = 1; count = 2 }) ∷ []);
     } }
     ensures free { changed (LockIs there None) small ≡ record small { locks = map.from_sorted [] } }
     ensures printed { changed (Prints (pos 7)) small ≡ record small { output = pos 1 ∷ pos 7 ∷ [] } }
-    ensures started { changed (Starts next 1) small ≡ record small { threads = Done ∷ Ready here 0 ∷ Done ∷ Ready next 1 ∷ [] } }
+    ensures started { changed (Starts second_object 1) small ≡ record small { threads = Done ∷ Ready here 0 ∷ Done ∷ Ready second_object 1 ∷ [] } }
     ensures own_thread { moved 1 (record { kind = Both; thread = Done; change = Prints (pos 7) }) small ≡ record small { threads = Done ∷ Done ∷ Done ∷ []; output = pos 1 ∷ pos 7 ∷ [] } }
 {}
 

@@ -20,15 +20,15 @@ use Rattle.sources.proofs.TokenCounts.{few_tokens}
 use Rattle.state.specs.States.{State}
 use Rattle.semantics.specs.Run.{run}
 use Rattle.syntax.specs.Trees.{ProgramTree}
-use Rattle.evidence_commands.specs.Levels.{LevelsAnswer, LevelsFact, OrdersBy, NoOrder, no_levels, first_bad, no_source, no_order, in_order}
+use Rattle.evidence_commands.specs.Levels.{LevelsAnswer, LevelsFact, OrdersBy, NoLevelOrder, no_levels, first_bad, no_source, no_order, in_order}
 
 -- levels with a line that refuses them end so
-refused_order : (t : TableData) (P : Program) (bytes : List ℕ) (ended : Ending) (line : List ℕ) → NoOrder t P bytes ended line → ended ≡ ending.LevelsRefused
+refused_order : (t : TableData) (P : Program) (bytes : List ℕ) (ended : Ending) (line : List ℕ) → NoLevelOrder t P bytes ended line → ended ≡ ending.LevelsRefused
 refused_order t P bytes _ _ (no_levels fault is) = refl
 refused_order t P bytes _ _ (first_bad levels sets method class under are relevant is) = refl
 
 -- and don't order the program
-refused_or_ordered : (t : TableData) (P : Program) (bytes : List ℕ) (ended : Ending) (line : List ℕ) → NoOrder t P bytes ended line → OrdersBy t P bytes → ⊥
+refused_or_ordered : (t : TableData) (P : Program) (bytes : List ℕ) (ended : Ending) (line : List ℕ) → NoLevelOrder t P bytes ended line → OrdersBy t P bytes → ⊥
 refused_or_ordered t P bytes _ _ (no_levels fault is) orders = levels_or_fault t P bytes orders.levels fault orders.are_levels is
 refused_or_ordered t P bytes _ _ (first_bad levels sets method class under are relevant is) orders =
     let same_levels = one_told t bytes levels orders.levels are.told orders.are_levels.told in

@@ -27,7 +27,7 @@ use Rattle.sources.proofs.Told.{right_of_more}
 use Rattle.sources.proofs.Verdicts.{well_formed_source}
 use Rattle.syntax.specs.Trees.{ProgramTree}
 use Rattle.evidence_commands.specs.LevelLines.{ordered_line}
-use Rattle.evidence_commands.specs.Levels.{OrdersBy, NoOrder, no_levels, first_bad, LevelsAnswer, no_source, no_order, in_order}
+use Rattle.evidence_commands.specs.Levels.{OrdersBy, NoLevelOrder, no_levels, first_bad, LevelsAnswer, no_source, no_order, in_order}
 use Rattle.evidence_commands.specs.RefusedLevels.{RefusesText, RefusesOrder}
 
 pub source_refused : (file bytes : List ℕ) (r : Refusal) → IsRight (NoSource file) r → IsRight (LevelsAnswer file bytes) r
@@ -49,9 +49,9 @@ text_refusal file bytes source fault r is why right =
     let P = program_of source.program in
     right_of_more (RefusesText (table_data source.table) fault) (LevelsAnswer file bytes) (λ ended line told.
     no_order is.0 P (well_formed_source file is.0 source is.1)
-    (subst (λ t. NoOrder t P bytes ended line) is.1.table
-    (subst (λ e. NoOrder (table_data source.table) P bytes e line) (sym told.ends)
-    (subst (NoOrder (table_data source.table) P bytes ending.LevelsRefused) (sym told.line_is) (no_levels fault (first why told.told))))))
+    (subst (λ t. NoLevelOrder t P bytes ended line) is.1.table
+    (subst (λ e. NoLevelOrder (table_data source.table) P bytes e line) (sym told.ends)
+    (subst (NoLevelOrder (table_data source.table) P bytes ending.LevelsRefused) (sym told.line_is) (no_levels fault (first why told.told))))))
     r right
   where
     first : (fault ≡ faults.NoMemory) ⊎ IsFirstLevelsFault (table_data source.table) (program_of source.program) bytes fault → (fault ≡ faults.NoMemory → ⊥) → IsFirstLevelsFault (table_data source.table) (program_of source.program) bytes fault
@@ -65,9 +65,9 @@ order_refusal file bytes levels source end r is are why right =
     let P = program_of source.program in let t = table_data source.table in
     right_of_more (RefusesOrder t end) (LevelsAnswer file bytes) (λ ended line told.
     no_order is.0 P (well_formed_source file is.0 source is.1)
-    (subst (λ t. NoOrder t P bytes ended line) is.1.table
-    (subst (λ e. NoOrder t P bytes e line) (sym told.ends)
-    (subst (NoOrder t P bytes ending.LevelsRefused) (sym told.line_is)
+    (subst (λ t. NoLevelOrder t P bytes ended line) is.1.table
+    (subst (λ e. NoLevelOrder t P bytes e line) (sym told.ends)
+    (subst (NoLevelOrder t P bytes ending.LevelsRefused) (sym told.line_is)
     (first_bad levels source.sets told.method told.class told.under are is.1.relevant (why told.method told.class told.under told.end_is))))))
     r right
 

@@ -24,15 +24,15 @@ pub record OrdersBy (t : TableData) (P : Program) (bytes : List ℕ) : Type 0 wh
   pub ordered : IsOrdered P (rel_of sets) (level_in levels)
 
 -- the line that refuses bytes for a program: the first fault of a text that gives no levels, or the first bad `synchronized`
-pub data NoOrder (t : TableData) (P : Program) (bytes : List ℕ) : Ending → List ℕ → Type 0 where
-  no_levels : (fault : LevelsFault) → IsFirstLevelsFault t P bytes fault → NoOrder t P bytes ending.LevelsRefused (levels_fault_line t fault)
+pub data NoLevelOrder (t : TableData) (P : Program) (bytes : List ℕ) : Ending → List ℕ → Type 0 where
+  no_levels : (fault : LevelsFault) → IsFirstLevelsFault t P bytes fault → NoLevelOrder t P bytes ending.LevelsRefused (levels_fault_line t fault)
   first_bad : (levels : List ℕ) (sets : List MethodPaths) (method class under : ℕ) → AreLevels t P bytes levels → AreRelevant P sets
-      → IsFirstBad P (rel_of sets) (level_in levels) method class under → NoOrder t P bytes ending.LevelsRefused (takes_line t method class under)
+      → IsFirstBad P (rel_of sets) (level_in levels) method class under → NoLevelOrder t P bytes ending.LevelsRefused (takes_line t method class under)
 
 -- the line that refuses the source, else the levels; or what is written where the program is ordered
 pub data LevelsAnswer (file bytes : List ℕ) : Ending → List ℕ → Type 0 where
   no_source : {ending : Ending} {line : List ℕ} → NoSource file ending line → LevelsAnswer file bytes ending line
-  no_order : {ending : Ending} {line : List ℕ} (tree : ProgramTree) (P : Program) → IsWellFormedSource file tree P → NoOrder (table_of tree) P bytes ending line → LevelsAnswer file bytes ending line
+  no_order : {ending : Ending} {line : List ℕ} (tree : ProgramTree) (P : Program) → IsWellFormedSource file tree P → NoLevelOrder (table_of tree) P bytes ending line → LevelsAnswer file bytes ending line
   in_order : (tree : ProgramTree) (P : Program) → IsWellFormedSource file tree P → OrdersBy (table_of tree) P bytes → LevelsAnswer file bytes ending.Done ordered_line
 
 -- when `levels` ends how

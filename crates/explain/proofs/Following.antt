@@ -12,7 +12,7 @@ use Rattle.explain.specs.Whys.{ExplainedData}
 use Rattle.base.proofs.Lists.{next_drop}
 use Rattle.core_program.specs.declared.program.CoreMethod.{CoreMethod}
 use Rattle.core_program.specs.Views.{method_of}
-use Rattle.explain.specs.Programs.{led_to, marked, explained_methods, keeps, if_untold, refused, compound, led, explanations, explanations_from, IsNext}
+use Rattle.explain.specs.Programs.{led_to, marked, explained_methods, keeps, if_untold, refused, compound, led, explanations, explanations_from, IsToldNext}
 
 module _ (P : Program) (rel : ℕ → List PathData) (A : Assignment) (overs : ℕ → List ℕ) where
   -- ---- where nothing follows
@@ -54,7 +54,7 @@ module _ (P : Program) (rel : ℕ → List PathData) (A : Assignment) (overs : �
   test_passes false false a b = sym b
 
   pub follows_more : (most done : ℕ) (next0 : Option ℕ) (told0 : List Bool) (all0 : List ExplainedData) (next : Option ℕ) (told : List Bool) (all : List ExplainedData) (m : ℕ) (method : Method)
-      (x : ExplainedData) (next1 : Option ℕ) (told1 : List Bool) (all1 : List ExplainedData) → done < most → Follows most done next0 told0 all0 next told all → IsNext P A told next m method
+      (x : ExplainedData) (next1 : Option ℕ) (told1 : List Bool) (all1 : List ExplainedData) → done < most → Follows most done next0 told0 all0 next told all → IsToldNext P A told next m method
       → x ≡ compound P rel A overs m method → next1 ≡ led_to x.why → told1 ≡ slice_set told m true → all1 ≡ all ++ x ∷ [] → Follows most (done + 1) next0 told0 all0 next1 told1 all1
   follows_more most done next0 told0 all0 next told all m method x next1 told1 all1 below f is x_is next_is told_is all_is = by f.left f.sum f.whole f.marks
     where
@@ -166,7 +166,7 @@ module _ (P : Program) (rel : ℕ → List PathData) (A : Assignment) where
       ap (led P rel A overs most told) is ∙ led_stops P rel A overs most told m method (sym there) (one_fails (unwrap_or (slice_get told m) true) (keeps A m method) b test fails)
 
   pub goes_on : (told : List Bool) (next : Option ℕ) (m : ℕ) (method : Method) (b : Bool) → next ≡ Some m → Some method ≡ slice_get P.methods m → b ≡ (not (unwrap_or (slice_get told m) true) && keeps A m method) → b ≡ true
-      → IsNext P A told next m method
+      → IsToldNext P A told next m method
   goes_on told next m method b is there test passes =
       let parts = and_parts (not (unwrap_or (slice_get told m) true)) (keeps A m method) (sym test ∙ passes) in
       record { is = is; there = sym there; untold = not-true (unwrap_or (slice_get told m) true) parts.0; kept = parts.1 }

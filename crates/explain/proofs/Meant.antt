@@ -21,7 +21,7 @@ use Rattle.explain.proofs.WhyErrors.{error_reads}
 use Rattle.explain.proofs.Heavy.{part_heavy}
 use Rattle.explain.proofs.Readings.{cmpd_reads}
 use Rattle.explain.proofs.AllVisits.{part_among}
-use Rattle.explain.specs.Explaining.{body_why, is_call_of_method, compound_or, compound_why, is_own, looped_or, over_of, steps_of, steps_why, why_of, with_first, wrong_of, wrong_or}
+use Rattle.explain.specs.Explaining.{body_why, is_call_of_method, compound_or, compound_why, is_error_of_part, looped_or, over_of, steps_of, steps_why, why_of, with_first, wrong_of, wrong_or}
 use Rattle.explain.specs.Meanings.{are_within, IsBefore, IsAmong, IsAboveLimit, IsReasonOf, Means}
 use Rattle.explain.specs.Views.{errors_in}
 use Rattle.explain.specs.Whys.{WhyData, Two, Overridden}
@@ -296,11 +296,11 @@ module _ (P : Program) (rel : ℕ → List PathData) (A : Assignment) where
         (all_filtered (Contains all_visits) (λ v. is_error (own_at P rel A v)) all_visits (each_there all_visits))
 
     wrong_meant : (errors : List Visit) → AllByRecursion (IsAmong P rel A all_visits Error) errors → (errors ≡ [] → ⊥) → IsReasonOf P rel A overs method limit (wrong_of P rel errors)
-    wrong_meant errors all some = by (first_where (λ v. is_own P rel v.part v.held) errors) refl errors all some
+    wrong_meant errors all some = by (first_where (λ v. is_error_of_part P rel v.part v.held) errors) refl errors all some
       where
-        by : (found : Option Visit) → first_where (λ v. is_own P rel v.part v.held) errors ≡ found → (vs : List Visit) → AllByRecursion (IsAmong P rel A all_visits Error) vs → (vs ≡ [] → ⊥)
+        by : (found : Option Visit) → first_where (λ v. is_error_of_part P rel v.part v.held) errors ≡ found → (vs : List Visit) → AllByRecursion (IsAmong P rel A all_visits Error) vs → (vs ≡ [] → ⊥)
             → IsReasonOf P rel A overs method limit (wrong_or found vs)
-        by (Some v) is vs every there = all_first (IsAmong P rel A all_visits Error) (λ w. is_own P rel w.part w.held) errors v all is
+        by (Some v) is vs every there = all_first (IsAmong P rel A all_visits Error) (λ w. is_error_of_part P rel w.part w.held) errors v all is
         by None is [] every there = absurd (there refl)
         by None is (v ∷ vs) every there = every.0
 

@@ -9,9 +9,9 @@ use Rattle.core_program.specs.Core.{Stmt, Stmts, EmptyS, BlockS, LocalS, SetVarS
 use Rattle.core_program.specs.Sizes.{nodes_of, nodes_of_each, value_nodes, stmt_nodes, stmt_nodes_each}
 use Rattle.rules.specs.Effect.{after_stmt}
 use Rattle.effects.specs.Parts.{Part, ExprP, StmtP}
-use Rattle.explain.specs.PartEffects.{expr_parts, exprs_parts, value_parts, stmt_parts, block_parts, parts_in}
+use Rattle.explain.specs.PartEffects.{expr_parts, exprs_parts, parts_of_value, stmt_parts, block_parts, parts_in}
 use Rattle.explain.specs.Visits.{Visit, visit, by_lock, expr_visits, exprs_visits, value_visits, stmt_visits, block_visits, part_visits}
-use Rattle.explain.specs.StepReadings.{IsNumbered}
+use Rattle.explain.specs.StepReadings.{HasNumberOfPart}
 
 two_lists : (xs ys : List Part) (a b : ℕ) → length xs ≡ a → length ys ≡ b → length (xs ++ ys) ≡ a + b
 two_lists xs ys a b first second = length-append xs ys ∙ (λ i. first i + second i)
@@ -36,7 +36,7 @@ mutual
   exprs_long no_exprs = refl
   exprs_long (and_expr e es) = two_lists _ _ _ _ (expr_long e) (exprs_long es)
 
-value_long : (o : Option Expr) → length (value_parts o) ≡ value_nodes o
+value_long : (o : Option Expr) → length (parts_of_value o) ≡ value_nodes o
 value_long None = refl
 value_long (Some e) = expr_long e
 
@@ -61,7 +61,7 @@ mutual
 
 -- each visit has the number of its place in a list of parts, of which the first has this number
 pub record Numbered (vs : List Visit) (parts : List Part) (n : ℕ) : Type 0 where
-  pub each : (v : Visit) → Contains vs v → IsNumbered parts n v
+  pub each : (v : Visit) → Contains vs v → HasNumberOfPart parts n v
 
 none : {parts : List Part} {n : ℕ} → Numbered [] parts n
 none = record { each = λ v is. absurd (empty v is) }
@@ -87,7 +87,7 @@ alone n x H loop parts = record {
 behind : {vs : List Visit} {parts : List Part} (n : ℕ) (x : Part) (H : Held) (loop : Option ℕ) → Numbered vs parts (n + 1) → Numbered (vs ++ visit n x H loop) (x ∷ parts) n
 behind {vs = vs} {parts = parts} n x H loop own = record { each = λ v is. by v (Contains-append_cases vs (visit n x H loop) v is) }
   where
-    by : (v : Visit) → Contains vs v ⊎ Contains (visit n x H loop) v → IsNumbered (x ∷ parts) n v
+    by : (v : Visit) → Contains vs v ⊎ Contains (visit n x H loop) v → HasNumberOfPart (x ∷ parts) n v
     by v (inl i) = let its = own.each v i in record { index = suc its.index; number = its.number ∙ omega (arith); part = its.part }
     by v (inr i) = (alone n x H loop parts).each v i
 
@@ -95,7 +95,7 @@ behind {vs = vs} {parts = parts} n x H loop own = record { each = λ v is. by v 
 both : {vs ws : List Visit} {ps qs : List Part} {n : ℕ} (count : ℕ) → length ps ≡ count → Numbered vs ps n → Numbered ws qs (n + count) → Numbered (vs ++ ws) (ps ++ qs) n
 both {vs = vs} {ws = ws} {ps = ps} {qs = qs} {n = n} count long first second = record { each = λ v is. by v (Contains-append_cases vs ws v is) }
   where
-    by : (v : Visit) → Contains vs v ⊎ Contains ws v → IsNumbered (ps ++ qs) n v
+    by : (v : Visit) → Contains vs v ⊎ Contains ws v → HasNumberOfPart (ps ++ qs) n v
     by v (inl i) = let its = first.each v i in record { index = its.index; number = its.number; part = at_left ps qs its.index v.part its.part }
     by v (inr i) =
         let its = second.each v i in
@@ -137,7 +137,7 @@ mutual
   exprs_numbered no_exprs n H loop = none
   exprs_numbered (and_expr e es) n H loop = both (nodes_of e) (expr_long e) (expr_numbered e n H loop) (exprs_numbered es (n + nodes_of e) H loop)
 
-value_numbered : (o : Option Expr) (n : ℕ) (H : Held) (loop : Option ℕ) → Numbered (value_visits o n H loop) (value_parts o) n
+value_numbered : (o : Option Expr) (n : ℕ) (H : Held) (loop : Option ℕ) → Numbered (value_visits o n H loop) (parts_of_value o) n
 value_numbered None n H loop = none
 value_numbered (Some e) n H loop = expr_numbered e n H loop
 
@@ -162,6 +162,6 @@ module _ (P : Program) where
     block_numbered no_stmts n H loop = none
     block_numbered (and_stmt s ss) n H loop = both (stmt_nodes s) (stmt_long s) (stmt_numbered s n H loop) (block_numbered ss (n + stmt_nodes s) (after_stmt P s H) loop)
 
-  pub part_numbered : (x : Part) (n : ℕ) (H : Held) (v : Visit) → Contains (part_visits P x n H) v → IsNumbered (parts_in x) n v
+  pub part_numbered : (x : Part) (n : ℕ) (H : Held) (v : Visit) → Contains (part_visits P x n H) v → HasNumberOfPart (parts_in x) n v
   part_numbered (ExprP e) n H v is = (expr_numbered e n H None).each v is
   part_numbered (StmtP s) n H v is = (stmt_numbered s n H None).each v is

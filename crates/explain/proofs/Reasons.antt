@@ -26,8 +26,8 @@ use Rattle.explain.specs.Visits.{Visit, stmt_visits}
 use Rattle.explain.specs.declared.found.Found.{Found}
 use Rattle.explain.specs.declared.found.Visited.{Visited}
 use Rattle.explain.specs.Basics.{stmt_basics}
-use Rattle.explain.specs.Explaining.{body_why, is_call_of_method, compound_or, first_wrong, is_own, looped_or, only_step_why, over_of, steps_of, steps_why, why_of, with_first, wrong_of, wrong_or}
-use Rattle.explain.specs.Views.{errors_in, heavy_in, is_heavy, part_of, visit_of, visits_of}
+use Rattle.explain.specs.Explaining.{body_why, is_call_of_method, compound_or, first_wrong, is_error_of_part, looped_or, only_step_why, over_of, steps_of, steps_why, why_of, with_first, wrong_of, wrong_or}
+use Rattle.explain.specs.Views.{errors_in, heavy_in, is_heavy, part_of_walk, visit_of, visits_of}
 use Rattle.explain.specs.Walked.{WalkedStmt}
 use Rattle.explain.specs.Whys.{WhyData, Wrong, Compound, Two, Overridden, Nothing}
 use Rattle.explain.proofs.WalkedStatements.{at_stmt}
@@ -82,14 +82,14 @@ seen_rest : (vs : List Visited) (k : ℕ) (v : Visited) → k < length vs → v 
 seen_rest vs k v below is = drop-map visit_of k vs ∙ ap visits_of (next_drop vs k v below is)
 
 module _ (P : Program) (rel : ℕ → List PathData) where
-  pub own_found : (vs : List Visited) (k : ℕ) (v : Visited) → k < length vs → v ≡ get_or vs k v → Left (λ w. is_own P rel w.part w.held) vs k
-      → is_own P rel (part_of v.part) (has_path v.held.items) ≡ true → first_wrong (drop k (visits_of vs)) ≡ wrong_of P rel (visits_of vs)
+  pub own_found : (vs : List Visited) (k : ℕ) (v : Visited) → k < length vs → v ≡ get_or vs k v → Left (λ w. is_error_of_part P rel w.part w.held) vs k
+      → is_error_of_part P rel (part_of_walk v.part) (has_path v.held.items) ≡ true → first_wrong (drop k (visits_of vs)) ≡ wrong_of P rel (visits_of vs)
   own_found vs k v below is left own =
       ap first_wrong (seen_rest vs k v below is)
-      ∙ sym (ap (λ o. wrong_or o (visits_of vs)) (first_here (λ w. is_own P rel w.part w.held) vs k v below is left own))
+      ∙ sym (ap (λ o. wrong_or o (visits_of vs)) (first_here (λ w. is_error_of_part P rel w.part w.held) vs k v below is left own))
 
-  pub own_nowhere : (vs : List Visited) (k : ℕ) → length vs ≤ k → Left (λ w. is_own P rel w.part w.held) vs k → first_wrong (visits_of vs) ≡ wrong_of P rel (visits_of vs)
-  own_nowhere vs k past left = sym (ap (λ o. wrong_or o (visits_of vs)) (first_nowhere (λ w. is_own P rel w.part w.held) vs k past left))
+  pub own_nowhere : (vs : List Visited) (k : ℕ) → length vs ≤ k → Left (λ w. is_error_of_part P rel w.part w.held) vs k → first_wrong (visits_of vs) ≡ wrong_of P rel (visits_of vs)
+  own_nowhere vs k past left = sym (ap (λ o. wrong_or o (visits_of vs)) (first_nowhere (λ w. is_error_of_part P rel w.part w.held) vs k past left))
 
 -- an error, if there is one
 abbrev pub wrong_at : Option Visit → WhyData

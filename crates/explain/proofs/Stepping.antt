@@ -16,14 +16,14 @@ use Rattle.explain.specs.declared.deeds.Help.{Help}
 use Rattle.explain.specs.declared.deeds.Help.TheVariants as helps
 use Rattle.explain.specs.declared.names.Alias.{Alias}
 use Rattle.explain.specs.Causes.{call_cause, cause_of, first_lacking}
-use Rattle.explain.specs.Deeds.{deed_of, help_of, hold_or, no_call_help, no_help}
+use Rattle.explain.specs.Deeds.{deed_of_part, help_of, hold_or, no_call_help, no_help}
 use Rattle.explain.specs.Names.{second_name}
 
 module _ (P : Program) (rel : ℕ → List PathData) (A : Assignment) (H : Held) (x : Part) (whole : CoreExpr) (m : ℕ) (all : List CoreExpr) (is : x ≡ ExprP (CallE (expr_of whole) m (exprs_from all))) where
   -- a call
   pub call_done : {E : Type 0} (overs : ℕ → List ℕ) (r : CoreExpr) (es : List CoreExpr) (done : Result Deed E) → r ≡ whole → es ≡ all
-      → IfOk done (λ d. d ≡ deed_of P rel A overs (ExprP (CallE (expr_of r) m (exprs_from es))) H) → IfOk done (λ d. d ≡ deed_of P rel A overs x H)
-  call_done overs r es (Ok d) one two e = e ∙ (λ i. deed_of P rel A overs (ExprP (CallE (expr_of (one i)) m (exprs_from (two i)))) H) ∙ ap (λ y. deed_of P rel A overs y H) (sym is)
+      → IfOk done (λ d. d ≡ deed_of_part P rel A overs (ExprP (CallE (expr_of r) m (exprs_from es))) H) → IfOk done (λ d. d ≡ deed_of_part P rel A overs x H)
+  call_done overs r es (Ok d) one two e = e ∙ (λ i. deed_of_part P rel A overs (ExprP (CallE (expr_of (one i)) m (exprs_from (two i)))) H) ∙ ap (λ y. deed_of_part P rel A overs y H) (sym is)
   call_done overs r es (Err e) one two h = h
 
   module _ (aliases : List Alias) (r : CoreExpr) (es : List CoreExpr) (o : Option PathData) (h : Help) (one : r ≡ whole) (two : es ≡ all) (found : o ≡ help P rel A (ExprP (CallE (expr_of r) m (exprs_from es))) H) where

@@ -47,14 +47,14 @@ hold_or aliases H (Some p) reason = helps.Hold p (second_name aliases H p)
 
 module _ (P : Program) (rel : ℕ → List PathData) (A : Assignment) where
   -- what a part does by itself, where these methods override each
-  abbrev pub deed_of : (overs : ℕ → List ℕ) → Part → Held → Deed
-  deed_of overs (ExprP (GetE e f)) H = deed.Reads (path_of P e) f (guard_of P f (path_of P e))
-  deed_of overs (ExprP (CallE e m args)) H = deed.Calls m (call_of P rel A m (path_of P e) (paths_of P args) H) (taken_lock P rel A (overs m) m (path_of P e) (paths_of P args) H)
-  deed_of overs (StmtP (SetFieldS e f g)) H = deed.Writes (path_of P e) f (guard_of P f (path_of P e))
-  deed_of overs (StmtP (SyncS p s)) H = deed.Locks p
-  deed_of overs (StmtP (PrintS e)) H = deed.Prints
-  deed_of overs (StmtP (StartS e)) H = deed.Starts
-  deed_of overs part H = deed.Other
+  abbrev pub deed_of_part : (overs : ℕ → List ℕ) → Part → Held → Deed
+  deed_of_part overs (ExprP (GetE e f)) H = deed.Reads (path_of P e) f (guard_of P f (path_of P e))
+  deed_of_part overs (ExprP (CallE e m args)) H = deed.Calls m (call_of P rel A m (path_of P e) (paths_of P args) H) (taken_lock P rel A (overs m) m (path_of P e) (paths_of P args) H)
+  deed_of_part overs (StmtP (SetFieldS e f g)) H = deed.Writes (path_of P e) f (guard_of P f (path_of P e))
+  deed_of_part overs (StmtP (SyncS p s)) H = deed.Locks p
+  deed_of_part overs (StmtP (PrintS e)) H = deed.Prints
+  deed_of_part overs (StmtP (StartS e)) H = deed.Starts
+  deed_of_part overs part H = deed.Other
 
   -- the lock that would help a part, else why there is none
   abbrev pub help_of : List Alias → Part → Held → Help

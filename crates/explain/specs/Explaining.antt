@@ -61,13 +61,13 @@ steps_why self (v ∷ w ∷ vs) cs = looped_or v v.loop (Two v w)
 
 module _ (P : Program) (rel : ℕ → List PathData) where
   -- whether an error comes from the part itself, and not from a method that is called and is an error where it has what it requires
-  abbrev pub is_own : Part → Held → Bool
-  is_own (ExprP (CallE e m args)) H = not (list_all (held_under (rel m) (path_of P e) (paths_of P args) H) (required_paths (slice_get P.methods m)))
-  is_own part H = true
+  abbrev pub is_error_of_part : Part → Held → Bool
+  is_error_of_part (ExprP (CallE e m args)) H = not (list_all (held_under (rel m) (path_of P e) (paths_of P args) H) (required_paths (slice_get P.methods m)))
+  is_error_of_part part H = true
 
   -- of parts that are an error by themselves the first whose error comes from itself; else the first
   abbrev pub wrong_of : List Visit → WhyData
-  wrong_of vs = wrong_or (first_where (λ v. is_own v.part v.held) vs) vs
+  wrong_of vs = wrong_or (first_where (λ v. is_error_of_part v.part v.held) vs) vs
 
 -- the first of these methods that is more than the limit at those of the held paths that are relevant to it
 abbrev pub over_of : (rel : ℕ → List PathData) → Assignment → (limit : Basic) → List ℕ → Held → WhyData

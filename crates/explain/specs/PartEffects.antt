@@ -74,9 +74,9 @@ abbrev mutual
   exprs_parts (and_expr e es) = expr_parts e ++ exprs_parts es
 
 -- those of a returned value
-abbrev pub value_parts : Option Expr → List Part
-value_parts None = []
-value_parts (Some e) = expr_parts e
+abbrev pub parts_of_value : Option Expr → List Part
+parts_of_value None = []
+parts_of_value (Some e) = expr_parts e
 
 -- The parts of statements and of blocks.
 abbrev mutual
@@ -91,7 +91,7 @@ abbrev mutual
   stmt_parts (IfS c s t) = StmtP (IfS c s t) ∷ (expr_parts c ++ (stmt_parts s ++ stmt_parts t))
   stmt_parts (WhileS c s) = StmtP (WhileS c s) ∷ (expr_parts c ++ stmt_parts s)
   stmt_parts (SyncS p s) = StmtP (SyncS p s) ∷ stmt_parts s
-  stmt_parts (ReturnS e) = StmtP (ReturnS e) ∷ value_parts e
+  stmt_parts (ReturnS e) = StmtP (ReturnS e) ∷ parts_of_value e
   stmt_parts (PrintS e) = StmtP (PrintS e) ∷ expr_parts e
   stmt_parts (StartS e) = StmtP (StartS e) ∷ expr_parts e
 

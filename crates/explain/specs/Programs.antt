@@ -49,7 +49,7 @@ if_untold A told m None more = []
 if_untold A told m (Some method) more = if unwrap_or (slice_get told m) true || not (keeps A m method) then [] else more method
 
 -- the method that is told next is this one: an explanation leads to it, it is there, it isn't told yet, and it keeps its bound
-pub record IsNext (P : Program) (A : Assignment) (told : List Bool) (next : Option ℕ) (m : ℕ) (method : Method) : Type 0 where
+pub record IsToldNext (P : Program) (A : Assignment) (told : List Bool) (next : Option ℕ) (m : ℕ) (method : Method) : Type 0 where
   pub is : next ≡ Some m
   pub there : slice_get P.methods m ≡ Some method
   pub untold : unwrap_or (slice_get told m) true ≡ false

@@ -50,7 +50,7 @@ pub record IsFirstVisit (test : Visit → Bool) (vs : List Visit) (v : Visit) : 
   pub none_before : list_any test before ≡ false
 
 -- the visit has the number of its part: that of the first part, and as many more as parts stand before it
-pub record IsNumbered (parts : List Part) (n : ℕ) (v : Visit) : Type 0 where
+pub record HasNumberOfPart (parts : List Part) (n : ℕ) (v : Visit) : Type 0 where
   pub index : ℕ
   pub number : v.node ≡ n + index
   pub part : slice_get parts index ≡ Some v.part

@@ -20,13 +20,13 @@ use Rattle.explain.specs.StepReadings.{is_error, own_at}
 use Rattle.explain.specs.Visits.{Visit}
 
 -- a part of a body, lent by the walk, as plain data
-abbrev pub part_of : CorePart → Part
-part_of (part.Expr e) = ExprP (expr_of e.now)
-part_of (part.Stmt s) = StmtP (stmt_of s.now)
+abbrev pub part_of_walk : CorePart → Part
+part_of_walk (part.Expr e) = ExprP (expr_of e.now)
+part_of_walk (part.Stmt s) = StmtP (stmt_of s.now)
 
 -- a part that the walk came to, as plain data: its node, the paths that are held there, and whether it stands in a loop
 abbrev pub visit_of : Visited → Visit
-visit_of v = record { node = v.node; part = part_of v.part; held = has_path v.held.items; loop = v.looped }
+visit_of v = record { node = v.node; part = part_of_walk v.part; held = has_path v.held.items; loop = v.looped }
 
 -- all parts that the walk came to, in order
 abbrev pub visits_of : List Visited → List Visit

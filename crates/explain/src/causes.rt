@@ -10,7 +10,7 @@ ghost use Rattle.effects.specs.Parts.{ExprP};
 ghost use Rattle.rules.specs.Guards.{guard_of};
 ghost use Rattle.rules.specs.Near.{rel_of};
 ghost use Rattle.explain.specs.Causes.{access_cause, call_cause, cause_of, first_lacking, slot_lack};
-ghost use Rattle.explain.specs.Views.{part_of};
+ghost use Rattle.explain.specs.Views.{part_of_walk};
 
 use crate::found::CorePart;
 use crate::names::{Alias, Lack, lack_of, name_at_call, passed_expr, second_name};
@@ -215,7 +215,7 @@ pub fn cause_of<A>(
     part: CorePart<'_>,
     held: &[Path],
 ) -> Result<Cause, NoMemory>
-    ensures { IfOk result (λ cause. cause ≡ cause_of (program_of walk.now.program.now) (rel_of walk.now.sets.now) aliases.now (has_path held.now) (part_of part.entry)) }
+    ensures { IfOk result (λ cause. cause ≡ cause_of (program_of walk.now.program.now) (rel_of walk.now.sets.now) aliases.now (has_path held.now) (part_of_walk part.entry)) }
 {
     match part {
         CorePart::Expr(e) => expr_cause(walk, aliases, e, held),

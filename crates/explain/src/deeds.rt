@@ -14,9 +14,9 @@ ghost use Rattle.rules.specs.Mentions.{paths_of};
 ghost use Rattle.rules.specs.Near.{rel_of};
 ghost use Rattle.rules.specs.Search.{row_at};
 ghost use Rattle.explain.specs.Helping.{guard_help, help};
-ghost use Rattle.explain.specs.Deeds.{deed_of, help_of, hold_or, no_access_help, no_call_help};
+ghost use Rattle.explain.specs.Deeds.{deed_of_part, help_of, hold_or, no_access_help, no_call_help};
 ghost use Rattle.explain.specs.Names.{second_name};
-ghost use Rattle.explain.specs.Views.{part_of};
+ghost use Rattle.explain.specs.Views.{part_of_walk};
 
 use crate::found::CorePart;
 use crate::names::{Alias, Lack, lack_of, second_name};
@@ -75,7 +75,7 @@ fn call_deed<A: Assigned>(
     held: &[Path],
 ) -> Result<Deed, NoMemory>
     ensures { IfOk result (λ deed. let part = ExprP (CallE (expr_of receiver.now) callee (exprs_from args.now)) in
-        deed ≡ deed_of (program_of walk.now.program.now) (rel_of walk.now.sets.now) (A.Assigned.assigned walk.now.assigned.now) (row_at over.now) part (has_path held.now)) }
+        deed ≡ deed_of_part (program_of walk.now.program.now) (rel_of walk.now.sets.now) (A.Assigned.assigned walk.now.assigned.now) (row_at over.now) part (has_path held.now)) }
 {
     let call = Called {
         receiver,
@@ -101,7 +101,7 @@ fn expr_deed<A: Assigned>(
     e: &CoreExpr,
     held: &[Path],
 ) -> Result<Deed, NoMemory>
-    ensures { IfOk result (λ deed. deed ≡ deed_of (program_of walk.now.program.now) (rel_of walk.now.sets.now) (A.Assigned.assigned walk.now.assigned.now) (row_at over.now) (ExprP (expr_of e.now)) (has_path held.now)) }
+    ensures { IfOk result (λ deed. deed ≡ deed_of_part (program_of walk.now.program.now) (rel_of walk.now.sets.now) (A.Assigned.assigned walk.now.assigned.now) (row_at over.now) (ExprP (expr_of e.now)) (has_path held.now)) }
 {
     match e {
         CoreExpr::Get(receiver, field) => Ok(Deed::Reads(
@@ -123,7 +123,7 @@ pub fn deed_of<A: Assigned>(
     part: CorePart<'_>,
     held: &[Path],
 ) -> Result<Deed, NoMemory>
-    ensures { IfOk result (λ deed. deed ≡ deed_of (program_of walk.now.program.now) (rel_of walk.now.sets.now) (A.Assigned.assigned walk.now.assigned.now) (row_at over.now) (part_of part.entry) (has_path held.now)) }
+    ensures { IfOk result (λ deed. deed ≡ deed_of_part (program_of walk.now.program.now) (rel_of walk.now.sets.now) (A.Assigned.assigned walk.now.assigned.now) (row_at over.now) (part_of_walk part.entry) (has_path held.now)) }
 {
     match part {
         CorePart::Expr(e) => expr_deed(walk, over, e, held),
@@ -263,7 +263,7 @@ pub fn help_of<A: Assigned>(
     part: CorePart<'_>,
     held: &[Path],
 ) -> Result<Help, NoMemory>
-    ensures { IfOk result (λ h. h ≡ help_of (program_of walk.now.program.now) (rel_of walk.now.sets.now) (A.Assigned.assigned walk.now.assigned.now) aliases.now (part_of part.entry) (has_path held.now)) }
+    ensures { IfOk result (λ h. h ≡ help_of (program_of walk.now.program.now) (rel_of walk.now.sets.now) (A.Assigned.assigned walk.now.assigned.now) aliases.now (part_of_walk part.entry) (has_path held.now)) }
 {
     match part {
         CorePart::Expr(e) => expr_help(walk, aliases, e, held),

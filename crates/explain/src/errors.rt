@@ -9,8 +9,8 @@ ghost use Rattle.effects.specs.Parts.{ExprP, StmtP};
 ghost use Rattle.rules.specs.Near.{rel_of};
 ghost use Rattle.explain.specs.PartEffects.{own_of};
 ghost use Rattle.explain.specs.StepReadings.{is_error, own_at};
-ghost use Rattle.explain.specs.Explaining.{first_wrong, is_own, wrong_of};
-ghost use Rattle.explain.specs.Views.{errors_in, part_of, visit_of, visits_of, why_data};
+ghost use Rattle.explain.specs.Explaining.{first_wrong, is_error_of_part, wrong_of};
+ghost use Rattle.explain.specs.Views.{errors_in, part_of_walk, visit_of, visits_of, why_data};
 
 use crate::explaining::{Why, taken};
 use crate::found::{CorePart, Visited};
@@ -124,7 +124,7 @@ fn is_own<A: Assigned>(
     part: CorePart<'_>,
     held: &[Path],
 ) -> Result<bool, NoMemory>
-    ensures { IfOk result (λ b. b ≡ is_own (program_of walk.now.program.now) (rel_of walk.now.sets.now) (part_of part.entry) (has_path held.now)) }
+    ensures { IfOk result (λ b. b ≡ is_error_of_part (program_of walk.now.program.now) (rel_of walk.now.sets.now) (part_of_walk part.entry) (has_path held.now)) }
 {
     match part {
         CorePart::Expr(e) => is_own_expr(walk, e, held),
@@ -138,7 +138,7 @@ fn is_own_expr<A: Assigned>(
     e: &CoreExpr,
     held: &[Path],
 ) -> Result<bool, NoMemory>
-    ensures { IfOk result (λ b. b ≡ is_own (program_of walk.now.program.now) (rel_of walk.now.sets.now) (ExprP (expr_of e.now)) (has_path held.now)) }
+    ensures { IfOk result (λ b. b ≡ is_error_of_part (program_of walk.now.program.now) (rel_of walk.now.sets.now) (ExprP (expr_of e.now)) (has_path held.now)) }
 {
     match e {
         CoreExpr::Call(receiver, callee, args) => {

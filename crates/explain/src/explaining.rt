@@ -12,7 +12,7 @@ ghost use Rattle.explain.specs.Steps.{stmt_steps};
 ghost use Rattle.explain.specs.Visits.{Visit, stmt_visits};
 ghost use Rattle.explain.specs.Basics.{stmt_basics};
 ghost use Rattle.explain.specs.Explaining.{body_why, is_call_of_method, compound_or, compound_why, only_step_why, over_of, steps_of, steps_why, why_of, with_first};
-ghost use Rattle.explain.specs.Views.{errors_in, heavy_in, part_of, visit_of, visits_of, why_data};
+ghost use Rattle.explain.specs.Views.{errors_in, heavy_in, part_of_walk, visit_of, visits_of, why_data};
 
 use crate::errors::{errors_of, wrong};
 use crate::found::{CorePart, Found, Visited};
@@ -132,7 +132,7 @@ fn put<'p>(
 
 /// Whether a part is a call of this method.
 fn calls(method: MethodId, part: CorePart<'_>) -> bool
-    ensures { result ≡ is_call_of_method method (part_of part.entry) }
+    ensures { result ≡ is_call_of_method method (part_of_walk part.entry) }
 {
     match part {
         CorePart::Expr(e) => is_call(method, e),

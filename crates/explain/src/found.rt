@@ -5,7 +5,7 @@ ghost use Rattle.algebra.specs.Basics.{below_of};
 ghost use Rattle.algebra.specs.HeldPaths.{has_path};
 ghost use Rattle.algebra.specs.declared.basic.Basic.TheVariants as basic;
 ghost use Rattle.explain.specs.Visits.{visit};
-ghost use Rattle.explain.specs.Views.{is_heavy, part_of, visits_of};
+ghost use Rattle.explain.specs.Views.{is_heavy, part_of_walk, visits_of};
 
 use algebra::Basic;
 use core_program::{CoreExpr, CoreStmt};
@@ -95,9 +95,9 @@ impl<'p> Found<'p> {
     ) -> Result<(), NoMemory>
         ensures basics { self.new.basics ≡ self.old.basics }
         ensures steps { OnOk result (visits_of self.new.steps.items ≡ visits_of self.old.steps.items
-            ++ (if below_of own basic.Mover then [] else visit reached.entry.node (part_of reached.entry.part) (has_path reached.entry.held.now) reached.entry.looped)) }
+            ++ (if below_of own basic.Mover then [] else visit reached.entry.node (part_of_walk reached.entry.part) (has_path reached.entry.held.now) reached.entry.looped)) }
         ensures heavy { OnOk result (visits_of self.new.heavy.items ≡ visits_of self.old.heavy.items
-            ++ (if is_heavy own then visit reached.entry.node (part_of reached.entry.part) (has_path reached.entry.held.now) reached.entry.looped else [])) }
+            ++ (if is_heavy own then visit reached.entry.node (part_of_walk reached.entry.part) (has_path reached.entry.held.now) reached.entry.looped else [])) }
     {
         if own.below(Basic::Mover) {
             return Ok(());
@@ -115,7 +115,7 @@ impl<'p> Found<'p> {
         ensures basics { self.new.basics ≡ self.old.basics }
         ensures steps { self.new.steps ≡ self.old.steps }
         ensures heavy { OnOk result (visits_of self.new.heavy.items ≡ visits_of self.old.heavy.items
-            ++ visit reached.entry.node (part_of reached.entry.part) (has_path reached.entry.held.now) reached.entry.looped) }
+            ++ visit reached.entry.node (part_of_walk reached.entry.part) (has_path reached.entry.held.now) reached.entry.looped) }
     {
         self.heavy.push(with_held(alloc, reached)?)?;
         Ok(())
@@ -157,7 +157,7 @@ impl<'p> Found<'p> {
 
 /// A part that the walk came to, with a copy of what is held there.
 fn with_held<'p>(alloc: Global, reached: Reached<'p, '_>) -> Result<Visited<'p>, NoMemory>
-    ensures { IfOk result (λ v. visits_of (v ∷ []) ≡ visit reached.entry.node (part_of reached.entry.part) (has_path reached.entry.held.now) reached.entry.looped) }
+    ensures { IfOk result (λ v. visits_of (v ∷ []) ≡ visit reached.entry.node (part_of_walk reached.entry.part) (has_path reached.entry.held.now) reached.entry.looped) }
 {
     Ok(Visited {
         node: reached.node,

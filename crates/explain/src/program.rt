@@ -6,8 +6,8 @@ ghost use Rattle.core_program.specs.Core.{Method};
 ghost use Rattle.core_program.specs.Views.{method_of, program_of};
 ghost use Rattle.rules.specs.Near.{rel_of};
 ghost use Rattle.rules.specs.Search.{row_at};
-ghost use Rattle.explain.specs.Programs.{called_by, explained, explanations, explanations_from, keeps, led, led_to, marked, explained_methods, IsNext};
-ghost use Rattle.explain.specs.Views.{explained_data, part_of, why_data};
+ghost use Rattle.explain.specs.Programs.{called_by, explained, explanations, explanations_from, keeps, led, led_to, marked, explained_methods, IsToldNext};
+ghost use Rattle.explain.specs.Views.{explained_data, part_of_walk, why_data};
 
 use crate::explaining::{Why, why_more};
 use crate::found::CorePart;
@@ -32,7 +32,7 @@ pub struct Explained<'p> {
 
 /// The method that a part calls, where it is a call.
 fn called_by(part: CorePart<'_>) -> Option<MethodId>
-    ensures { result ≡ called_by (part_of part.entry) }
+    ensures { result ≡ called_by (part_of_walk part.entry) }
 {
     match part {
         CorePart::Expr(CoreExpr::Call(_, callee, _)) => Some(*callee),
@@ -121,7 +121,7 @@ fn next_told<'p, A: Assigned>(
     told: &[bool],
     next: Option<MethodId>,
 ) -> Option<Followed<'p>>
-    ensures some { IfSome result (λ found. IsNext (program_of walk.now.program.now) (A.Assigned.assigned walk.now.assigned.now) told.now next found.id (method_of found.method.now)) }
+    ensures some { IfSome result (λ found. IsToldNext (program_of walk.now.program.now) (A.Assigned.assigned walk.now.assigned.now) told.now next found.id (method_of found.method.now)) }
     ensures none { IfNone result ((overs : ℕ → List ℕ) (most : ℕ) →
         led (program_of walk.now.program.now) (rel_of walk.now.sets.now) (A.Assigned.assigned walk.now.assigned.now) overs most told.now next ≡ []) }
 {

@@ -13,7 +13,7 @@ ghost use Rattle.books.specs.Derivations.{Node};
 ghost use Rattle.explain.specs.PartEffects.{own_of, effect_of_part, parts_in};
 ghost use Rattle.explain.specs.Visits.{Visit, part_visits};
 ghost use Rattle.explain.specs.Steps.{movable_steps};
-ghost use Rattle.explain.specs.StepReadings.{are_many, first_error, IsFirstError, IsNumbered, IsOne};
+ghost use Rattle.explain.specs.StepReadings.{are_many, first_error, IsFirstError, HasNumberOfPart, IsOne};
 ghost use Rattle.explain.specs.Helping.{help};
 
 /// A part that is no error is compound exactly where it has two steps or more, or one that a loop repeats or that is compound itself;
@@ -41,7 +41,7 @@ pub fn error_laws()
 pub fn place_laws()
     ensures visited { (P : Program) (rel : ℕ → List PathData) (A : Assignment) (x : Part) (n : ℕ) (H : Held) (v : Visit) →
         Contains (movable_steps P rel A x n H) v → Contains (part_visits P x n H) v }
-    ensures numbered { (P : Program) (x : Part) (n : ℕ) (H : Held) (v : Visit) → Contains (part_visits P x n H) v → IsNumbered (parts_in x) n v }
+    ensures numbered { (P : Program) (x : Part) (n : ℕ) (H : Held) (v : Visit) → Contains (part_visits P x n H) v → HasNumberOfPart (parts_in x) n v }
     ensures books { (x : Part) (d : Node) → Each FitsPart (places x d) → map (λ place. place.part) (places x d) ≡ parts_in x }
 {}
 

@@ -12,7 +12,7 @@ ghost use Rattle.rules.specs.Rules.{held_in};
 ghost use Rattle.rules.specs.Search.{row_at};
 ghost use Rattle.explain.specs.Visits.{stmt_visits};
 ghost use Rattle.explain.specs.Takings.{first_taken, if_atomic, is_freed, is_taking, locks, takes_in, takes_only};
-ghost use Rattle.explain.specs.Views.{part_of, visits_of};
+ghost use Rattle.explain.specs.Views.{part_of_walk, visits_of};
 
 use crate::deeds::moves_with;
 use crate::explaining::walk_body;
@@ -38,7 +38,7 @@ fn is_sync(lock: &Path, s: &CoreStmt) -> bool
 
 /// Whether a part is one.
 fn locks(lock: &Path, part: CorePart<'_>) -> bool
-    ensures { result ≡ locks lock.now (part_of part.entry) }
+    ensures { result ≡ locks lock.now (part_of_walk part.entry) }
 {
     match part {
         CorePart::Stmt(s) => is_sync(lock, s),

@@ -13,7 +13,7 @@ ghost use Rattle.rules.specs.Effect.{call_of};
 ghost use Rattle.rules.specs.Mentions.{paths_of};
 ghost use Rattle.rules.specs.Near.{rel_of};
 ghost use Rattle.explain.specs.Visits.{visit};
-ghost use Rattle.explain.specs.Views.{is_heavy, part_of, visits_of};
+ghost use Rattle.explain.specs.Views.{is_heavy, part_of_walk, visits_of};
 ghost use Rattle.explain.specs.Walked.{InsideExpr, InsideStmt, WalkedBlock, WalkedBranches, WalkedExpr, WalkedExprs, WalkedStmt, WalkedTwo, next};
 
 use crate::found::{CorePart, Found, Reached};
@@ -125,9 +125,9 @@ fn note_call<'p, A: Assigned>(
     ensures own { let P = program_of walk.now.program.now in IfOk result (λ own.
         own ≡ call_of P (rel_of walk.now.sets.now) (A.Assigned.assigned walk.now.assigned.now) callee (path_of P (expr_of receiver.now)) (paths_of P (exprs_from args.now)) (has_path reached.entry.held.now)) }
     ensures steps { IfOk result (λ own. visits_of found.new.steps.items ≡ visits_of found.old.steps.items
-        ++ (if below_of own Mover then [] else visit reached.entry.node (part_of reached.entry.part) (has_path reached.entry.held.now) reached.entry.looped)) }
+        ++ (if below_of own Mover then [] else visit reached.entry.node (part_of_walk reached.entry.part) (has_path reached.entry.held.now) reached.entry.looped)) }
     ensures heavy { IfOk result (λ own. visits_of found.new.heavy.items ≡ visits_of found.old.heavy.items
-        ++ (if is_heavy own then visit reached.entry.node (part_of reached.entry.part) (has_path reached.entry.held.now) reached.entry.looped else [])) }
+        ++ (if is_heavy own then visit reached.entry.node (part_of_walk reached.entry.part) (has_path reached.entry.held.now) reached.entry.looped else [])) }
 {
     let call = Called {
         receiver,
@@ -266,7 +266,7 @@ fn walk_sync<'p, A: Assigned>(
     found: &mut Found<'p>,
 ) -> Result<Basic, NoMemory>
     requires { next found.old ≡ reached.entry.node + 1 }
-    ensures { IfOk result (λ b. part_of reached.entry.part ≡ StmtP (SyncS path.now (stmt_of a.now))
+    ensures { IfOk result (λ b. part_of_walk reached.entry.part ≡ StmtP (SyncS path.now (stmt_of a.now))
         → InsideStmt (program_of walk.now.program.now) (rel_of walk.now.sets.now) (A.Assigned.assigned walk.now.assigned.now) (SyncS path.now (stmt_of a.now)) reached.entry.node (has_path reached.entry.held.now) reached.entry.looped found.old b found.new) }
 {
     if has(reached.held, path) {
@@ -287,9 +287,9 @@ fn note_lock<'p, A: Assigned>(
 ) -> Result<(), NoMemory>
     ensures basics { found.new.basics ≡ found.old.basics }
     ensures steps { OnOk result (visits_of found.new.steps.items ≡ visits_of found.old.steps.items
-        ++ (if below_of taken Mover then visit reached.entry.node (part_of reached.entry.part) (has_path reached.entry.held.now) reached.entry.looped else [])) }
+        ++ (if below_of taken Mover then visit reached.entry.node (part_of_walk reached.entry.part) (has_path reached.entry.held.now) reached.entry.looped else [])) }
     ensures heavy { OnOk result (visits_of found.new.heavy.items ≡ visits_of found.old.heavy.items
-        ++ visit reached.entry.node (part_of reached.entry.part) (has_path reached.entry.held.now) reached.entry.looped) }
+        ++ visit reached.entry.node (part_of_walk reached.entry.part) (has_path reached.entry.held.now) reached.entry.looped) }
 {
     if !taken.below(Basic::Mover) {
         return found.note_heavy(walk.alloc, reached);

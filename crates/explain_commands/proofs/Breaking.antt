@@ -10,10 +10,10 @@ use Rattle.paths.specs.Paths.{PathData}
 use Rattle.rules.specs.Effect.{Assignment}
 use Rattle.sources.specs.declared.refusal.Ending.TheVariants.{Done, Inadmissible}
 use Rattle.explain_commands.specs.Broken.{broken_from, broken_methods, refused_in, ending_for}
-use Rattle.explain_commands.specs.Explained.{AreWithin}
+use Rattle.explain_commands.specs.Explained.{AreAmongMethods}
 
 -- of fewer methods, so of more
-pub within_more : (n k : ℕ) (xs : List ExplainedData) → n ≤ k → AreWithin n xs → AreWithin k xs
+pub within_more : (n k : ℕ) (xs : List ExplainedData) → n ≤ k → AreAmongMethods n xs → AreAmongMethods k xs
 within_more n k [] le w = tt
 within_more n k (x ∷ xs) le w = (let below = w.0 in omega (arith, below, le), within_more n k xs le w.1)
 
@@ -30,7 +30,7 @@ none_refused : (n : ℕ) (more rest : List ExplainedData) → AreLed n more → 
 none_refused n [] rest a = refl
 none_refused n (x ∷ xs) rest a = rw (a.0) (none_refused n xs rest a.2)
 
-all_within : (n : ℕ) (more rest : List ExplainedData) → AreLed n more → AreWithin n rest → AreWithin n (more ++ rest)
+all_within : (n : ℕ) (more rest : List ExplainedData) → AreLed n more → AreAmongMethods n rest → AreAmongMethods n (more ++ rest)
 all_within n [] rest a w = w
 all_within n (x ∷ xs) rest a w = (a.1, all_within n xs rest a.2 w)
 
@@ -40,8 +40,8 @@ by_bound : (n m : ℕ) (b : Bool) (x : ExplainedData) (more rest later : List Ex
 by_bound n m true x more rest later ms is its fine one two = one
 by_bound n m false x more rest later ms is its fine one two = rw (is) (ap (λ k. k ∷ refused_in (more ++ rest)) its ∙ ap (λ l. m ∷ l) (none_refused n more rest fine ∙ two))
 
-there_by_bound : (n : ℕ) (b : Bool) (x : ExplainedData) (more rest later : List ExplainedData) → x.method < n → AreLed n more → AreWithin n later → AreWithin n rest
-    → AreWithin n (if b then later else (x ∷ (more ++ rest)))
+there_by_bound : (n : ℕ) (b : Bool) (x : ExplainedData) (more rest later : List ExplainedData) → x.method < n → AreLed n more → AreAmongMethods n later → AreAmongMethods n rest
+    → AreAmongMethods n (if b then later else (x ∷ (more ++ rest)))
 there_by_bound n true x more rest later below fine one two = one
 there_by_bound n false x more rest later below fine one two = (below, all_within n more rest fine two)
 
@@ -68,7 +68,7 @@ module _ (P : Program) (rel : ℕ → List PathData) (A : Assignment) (overs : �
       (explanations_from P rel A overs told (m + 1) methods) (broken_from A (m + 1) methods) refl refl (led_fine (length P.methods) told (led_to (refused P rel A overs m method).why))
       (refused_from told (m + 1) methods) (refused_from later (m + 1) methods)
 
-  within_from : (told : List Bool) (m : ℕ) (methods : List Method) → m + length methods ≡ length P.methods → AreWithin (length P.methods) (explanations_from P rel A overs told m methods)
+  within_from : (told : List Bool) (m : ℕ) (methods : List Method) → m + length methods ≡ length P.methods → AreAmongMethods (length P.methods) (explanations_from P rel A overs told m methods)
   within_from told m [] e = tt
   within_from told m (method ∷ methods) e =
       let more = led P rel A overs (length P.methods) told (led_to (refused P rel A overs m method).why) in
@@ -83,7 +83,7 @@ module _ (P : Program) (rel : ℕ → List PathData) (A : Assignment) (overs : �
   exactly_broken = refused_from (replicate (length P.methods) false) 0 P.methods
 
   -- and all their methods are there
-  pub all_there : AreWithin (length P.methods) (explanations P rel A overs)
+  pub all_there : AreAmongMethods (length P.methods) (explanations P rel A overs)
   all_there = within_from (replicate (length P.methods) false) 0 P.methods (omega arith)
 
 -- where no method breaks its bound, nothing is explained

@@ -14,7 +14,7 @@ use Rattle.syntax.specs.Trees.{ProgramTree}
 use Rattle.explain_commands.specs.declared.words.Order.{Order}
 use Rattle.explain_commands.specs.Answers.{ExplainAnswer, no_source, judged}
 use Rattle.explain_commands.specs.Broken.{IsProgramVerdict}
-use Rattle.explain_commands.specs.Written.{Belongs, too_large, ended, IsExactStatusOfFile}
+use Rattle.explain_commands.specs.Written.{BelongsToFile, too_large, ended, IsExactStatusOfFile}
 
 verdict_fact : (file : List ℕ) (tree : ProgramTree) (P : Program) (ending : Ending) → IsWellFormedSource file tree P → IsProgramVerdict P ending → CheckFact file ending
 verdict_fact file tree P Done is verdict = (tree, P, is, verdict)
@@ -91,7 +91,7 @@ module _ (file : List ℕ) (within : length file ≤ longest_source) where
   exact_ending LevelsRefused f = absurd f
   exact_ending CallTooDeep f = absurd f
 
-pub exact_answer : (order : Order) (name file : List ℕ) (status : ℕ) (text : List ℕ) → Belongs order name file status text → IsExactStatusOfFile file status
+pub exact_answer : (order : Order) (name file : List ℕ) (status : ℕ) (text : List ℕ) → BelongsToFile order name file status text → IsExactStatusOfFile file status
 exact_answer order name file _ _ (too_large over) = record {
   too_large = exactly 10 _ over;
   refused = never 10 1 _ (λ e. omega (arith, e)) (λ g. over_or_within (length file) over g.0);

@@ -12,7 +12,7 @@ use Rattle.report.specs.SourceFaults.{refused_line, lex_offset_of, lex_kind, cla
 use Rattle.sources.specs.declared.refusal.Ending.{Ending}
 use Rattle.sources.specs.Checking.{NoSource, no_program, class_fault, type_fault, crowded}
 use Rattle.sources.specs.Programs.{NoProgram, not_text, no_tokens, unexpected, too_deep, token_offset}
-use Rattle.explain_commands.specs.Faults.{source_fault_line, IsFaultLine}
+use Rattle.explain_commands.specs.Faults.{fault_line_at, IsSourceFaultLine}
 
 -- a list without a blank
 abbrev pub Blankless : List ℕ → Type 0
@@ -69,7 +69,7 @@ line_parts text at kind =
     in_row (codes "refused at ") b (codes ":") d (codes ": ") kind (codes "\n") ∙ ap (λ z. codes "refused at " ++ z) (sym (placed b (codes ":") d (32 ∷ (kind ++ codes "\n"))))
 
 -- the line in the form of compilers
-pub in_form : (name text : List ℕ) (at : ℕ) (kind : List ℕ) → name ++ (codes ":" ++ (place_front text at ++ (codes " error: " ++ ((kind ++ codes "\n") ++ [])))) ≡ source_fault_line name text at kind
+pub in_form : (name text : List ℕ) (at : ℕ) (kind : List ℕ) → name ++ (codes ":" ++ (place_front text at ++ (codes " error: " ++ ((kind ++ codes "\n") ++ [])))) ≡ fault_line_at name text at kind
 in_form name text at kind =
     let b = decimal (line_of text at) in
     let d = decimal (column_of text at) in
@@ -79,7 +79,7 @@ in_form name text at kind =
     placed b (codes ":") d (codes " error: " ++ (kn ++ [])) ∙ ap (λ z. b ++ (codes ":" ++ (d ++ (codes ": error: " ++ z)))) (append-nil kn) in
     let place : place_text (line_of text at) (column_of text at) ++ rest ≡ b ++ (codes ":" ++ (d ++ rest)) =
     append_assoc b (codes ":" ++ d) rest ∙ ap (λ z. b ++ z) (append_assoc (codes ":") d rest) in
-    let right : source_fault_line name text at kind ≡ name ++ (codes ":" ++ (place_text (line_of text at) (column_of text at) ++ rest)) =
+    let right : fault_line_at name text at kind ≡ name ++ (codes ":" ++ (place_text (line_of text at) (column_of text at) ++ rest)) =
     append_assoc (((name ++ codes ":") ++ place_text (line_of text at) (column_of text at)) ++ codes ": error: ") kind (codes "\n")
     ∙ append_assoc ((name ++ codes ":") ++ place_text (line_of text at) (column_of text at)) (codes ": error: ") kn
     ∙ append_assoc (name ++ codes ":") (place_text (line_of text at) (column_of text at)) rest
@@ -119,7 +119,7 @@ source_form file _ _ small (crowded tree P m method core first is) = has_form fi
 
 -- what is written for a refused source
 pub fault_told : (name file : List ℕ) (ending : Ending) (line out : List ℕ) → length file ≤ longest_source → NoSource file ending line
-    → ((text : List ℕ) (at : ℕ) (kind : List ℕ) → length text ≤ longest_source → line ≡ refused_line text at kind → out ≡ source_fault_line name text at kind) → IsFaultLine name file ending out
+    → ((text : List ℕ) (at : ℕ) (kind : List ℕ) → length text ≤ longest_source → line ≡ refused_line text at kind → out ≡ fault_line_at name text at kind) → IsSourceFaultLine name file ending out
 fault_told name file ending line out small is each =
     let form = source_form file ending line small is in
     record {

@@ -9,10 +9,10 @@ use Rattle.edge.specs.Said.{SaysText, IsTroubleStatus}
 use Rattle.sources.specs.Refusals.{code_of}
 use Rattle.explain_commands.specs.declared.words.Order.{Order}
 use Rattle.explain_commands.specs.declared.words.Order.TheVariants.{Why, All}
-use Rattle.explain_commands.specs.Outcomes.{IsOutcome, unread, over, read}
+use Rattle.explain_commands.specs.Outcomes.{IsExplainOutcome, unread, over, read}
 use Rattle.explain_commands.specs.Reading.{HasSameFaults, IsUnread, IsOver}
-use Rattle.explain_commands.specs.Words.{IsRow, all_word}
-use Rattle.explain_commands.specs.Written.{IsAskedFile, Belongs, too_large, ended, IsExactStatusOfFile, WritesAnswer, WritesAnswerToBytes, IsSomeText, some_unread, some_answer, WritesFront, IsSomeTextToBytes, unread_line, answer_to, WritesFrontToBytes}
+use Rattle.explain_commands.specs.Words.{AsksFor, all_word}
+use Rattle.explain_commands.specs.Written.{IsAskedFile, BelongsToFile, too_large, ended, IsExactStatusOfFile, WritesAnswer, WritesAnswerToFile, IsSomeText, some_unread, some_answer, WritesFront, IsSomeTextToBytes, unread_line, answer_to, WritesFrontToFile}
 use Rattle.explain_commands.proofs.Endings.{caused, low_code, exact_answer, exact_yield}
 
 -- words ask for one thing at most
@@ -20,7 +20,7 @@ pub record Same (order other : Order) (name its : List ℕ) : Type 0 where
   pub order_is : order ≡ other
   pub name_is : name ≡ its
 
-pub one_row : (words : List (List ℕ)) (order other : Order) (name its : List ℕ) → IsRow words order name → IsRow words other its → Same order other name its
+pub one_row : (words : List (List ℕ)) (order other : Order) (name its : List ℕ) → AsksFor words order name → AsksFor words other its → Same order other name its
 one_row words Why Why name its a b = record { order_is = refl; name_is = let e : name ∷ [] ≡ its ∷ [] = sym a.0 ∙ b.0 in cc }
 one_row words Why All name its a b = absurd (let e : name ∷ [] ≡ all_word ∷ its ∷ [] = sym a.0 ∙ b in cc)
 one_row words All Why name its a b = absurd (let e : its ∷ [] ≡ all_word ∷ name ∷ [] = sym b.0 ∙ a in cc)
@@ -47,30 +47,30 @@ some_over (Some file) is = record { file = file; its = refl; is_over = is }
 pub record IsDone (words : List (List ℕ)) (result : ℕ) (told : List ℕ → Option (List ℕ)) (before now : List ℕ → ℕ) (old new : Option (List ℕ)) (sink_before sink_now : ℕ) : Type 0 where
   pub order : Order
   pub name : List ℕ
-  pub is_row : IsRow words order name
+  pub is_row : AsksFor words order name
   pub status : ℕ
   pub text : List ℕ
-  pub outcome : IsOutcome order name told before now status text
+  pub outcome : IsExplainOutcome order name told before now status text
   pub said : SaysText result status text old new sink_before sink_now
 
 module _ (told : List ℕ → Option (List ℕ)) (before now : List ℕ → ℕ) (order : Order) (name : List ℕ) where
   -- the status of an outcome
-  six : (status : ℕ) (text : List ℕ) → IsOutcome order name told before now status text → status ≡ 6 → IsUnread told before now name × (text ≡ cannot_read_line name)
+  six : (status : ℕ) (text : List ℕ) → IsExplainOutcome order name told before now status text → status ≡ 6 → IsUnread told before now name × (text ≡ cannot_read_line name)
   six _ _ (unread is) e = (is, refl)
   six _ _ (over is) e = absurd (omega (arith, e))
   six _ _ (read file ending text is answer) e = absurd (let low = low_code file ending (caused order name file ending text answer) in omega (arith, low, e))
 
-  ten : (status : ℕ) (text : List ℕ) → IsOutcome order name told before now status text → status ≡ 10 → IsOver told before now name × (text ≡ too_large_line name)
+  ten : (status : ℕ) (text : List ℕ) → IsExplainOutcome order name told before now status text → status ≡ 10 → IsOver told before now name × (text ≡ too_large_line name)
   ten _ _ (unread is) e = absurd (omega (arith, e))
   ten _ _ (over is) e = (is, refl)
   ten _ _ (read file ending text is answer) e = absurd (let low = low_code file ending (caused order name file ending text answer) in omega (arith, low, e))
 
-  not_seven : (status : ℕ) (text : List ℕ) → IsOutcome order name told before now status text → status ≡ 7 → ⊥
+  not_seven : (status : ℕ) (text : List ℕ) → IsExplainOutcome order name told before now status text → status ≡ 7 → ⊥
   not_seven _ _ (unread is) e = omega (arith, e)
   not_seven _ _ (over is) e = omega (arith, e)
   not_seven _ _ (read file ending text is answer) e = let low = low_code file ending (caused order name file ending text answer) in omega (arith, low, e)
 
-  calm_or_six : (status : ℕ) (text : List ℕ) → IsOutcome order name told before now status text → (status ≡ 6) ⊎ HasSameFaults before now
+  calm_or_six : (status : ℕ) (text : List ℕ) → IsExplainOutcome order name told before now status text → (status ≡ 6) ⊎ HasSameFaults before now
   calm_or_six _ _ (unread is) = inl refl
   calm_or_six _ _ (over is) = inr is.quiet
   calm_or_six _ _ (read file ending text is answer) = inr is.quiet
@@ -79,38 +79,38 @@ module _ (told : List ℕ → Option (List ℕ)) (before now : List ℕ → ℕ)
   record IsToBytes (status : ℕ) (text : List ℕ) : Type 0 where
     bytes : List ℕ
     its : IfSome (told name) (λ x. bytes ≡ x)
-    belongs : Belongs order name bytes status text
+    belongs : BelongsToFile order name bytes status text
 
-  to_some : (status : ℕ) (text : List ℕ) → IsOutcome order name told before now status text → (status ≡ 6) ⊎ IsToBytes status text
+  to_some : (status : ℕ) (text : List ℕ) → IsExplainOutcome order name told before now status text → (status ≡ 6) ⊎ IsToBytes status text
   to_some _ _ (unread is) = inl refl
   to_some _ _ (over is) = let some = some_over (told name) is.over in inr (record { bytes = some.file; its = some.its; belongs = too_large some.is_over })
   to_some _ _ (read file ending text is answer) = inr (record { bytes = file; its = is.its; belongs = ended ending text is.within answer })
 
   -- what a front was written of, whatever is told
-  some_text : (status : ℕ) (text : List ℕ) → IsOutcome order name told before now status text → IsSomeTextToBytes order name told before now text
+  some_text : (status : ℕ) (text : List ℕ) → IsExplainOutcome order name told before now status text → IsSomeTextToBytes order name told before now text
   some_text _ _ (unread is) = unread_line is
   some_text _ _ (over is) = let some = some_over (told name) is.over in answer_to some.file 10 (too_large_line name) some.its (too_large some.is_over)
   some_text _ _ (read file ending text is answer) = answer_to file (code_of ending) text is.its (ended ending text is.within answer)
 
   -- of a file that is told: that it can't be read, or what belongs to its bytes
-  to_told : (file : List ℕ) → told name ≡ Some file → (status : ℕ) (text : List ℕ) → IsOutcome order name told before now status text
-      → (IsUnread told before now name × (status ≡ 6) × (text ≡ cannot_read_line name)) ⊎ Belongs order name file status text
+  to_told : (file : List ℕ) → told name ≡ Some file → (status : ℕ) (text : List ℕ) → IsExplainOutcome order name told before now status text
+      → (IsUnread told before now name × (status ≡ 6) × (text ≡ cannot_read_line name)) ⊎ BelongsToFile order name file status text
   to_told file is _ _ (unread gone) = inl (gone, refl, refl)
   to_told file is _ _ (over large) = inr (too_large (told_over (told name) file is large.over))
   to_told file is _ _ (read bytes ending text has answer) =
       let same = told_is (told name) file bytes is has.its in
-      inr (subst (λ b. Belongs order name b (code_of ending) text) same (ended ending text has.within answer))
+      inr (subst (λ b. BelongsToFile order name b (code_of ending) text) same (ended ending text has.within answer))
 
 module _ (words : List (List ℕ)) (result : ℕ) (told : List ℕ → Option (List ℕ)) (before now : List ℕ → ℕ) (old new : Option (List ℕ)) (sink_before sink_now : ℕ)
     (d : IsDone words result told before now old new sink_before sink_now) where
   -- what was found, for what the words ask
-  its : (order : Order) (name : List ℕ) → IsRow words order name → IsOutcome order name told before now d.status d.text
+  its : (order : Order) (name : List ℕ) → AsksFor words order name → IsExplainOutcome order name told before now d.status d.text
   its order name is =
       let same = one_row words d.order order d.name name d.is_row is in
-      subst (λ o. IsOutcome o name told before now d.status d.text) same.order_is (subst (λ n. IsOutcome d.order n told before now d.status d.text) same.name_is d.outcome)
+      subst (λ o. IsExplainOutcome o name told before now d.status d.text) same.order_is (subst (λ n. IsExplainOutcome d.order n told before now d.status d.text) same.name_is d.outcome)
 
   -- a file that can't be read
-  pub unreadable : (order : Order) (name : List ℕ) → IsRow words order name → result ≡ 6 → IsUnread told before now name × Appends old new (cannot_read_line name)
+  pub unreadable : (order : Order) (name : List ℕ) → AsksFor words order name → result ≡ 6 → IsUnread told before now name × Appends old new (cannot_read_line name)
   unreadable order name is e = by d.said
     where
       by : SaysText result d.status d.text old new sink_before sink_now → IsUnread told before now name × Appends old new (cannot_read_line name)
@@ -118,7 +118,7 @@ module _ (words : List (List ℕ)) (result : ℕ) (told : List ℕ → Option (L
       by (inl s) = let p = six told before now order name d.status d.text (its order name is) (sym s.0 ∙ e) in (p.0, subst (Appends old new) p.1 s.1)
 
   -- a file that is over its limit
-  pub over_limit : (order : Order) (name : List ℕ) → IsRow words order name → result ≡ 10 → IsOver told before now name × Appends old new (too_large_line name)
+  pub over_limit : (order : Order) (name : List ℕ) → AsksFor words order name → result ≡ 10 → IsOver told before now name × Appends old new (too_large_line name)
   over_limit order name is e = by d.said
     where
       by : SaysText result d.status d.text old new sink_before sink_now → IsOver told before now name × Appends old new (too_large_line name)
@@ -135,38 +135,38 @@ module _ (words : List (List ℕ)) (result : ℕ) (told : List ℕ → Option (L
       by (inl s) (inr calm) = inr calm
 
   -- whatever is told, the file has bytes to which this is the answer
-  pub to_bytes : (order : Order) (name : List ℕ) → IsRow words order name → IsTroubleStatus result ⊎ WritesAnswerToBytes order name told result old new
+  pub to_bytes : (order : Order) (name : List ℕ) → AsksFor words order name → IsTroubleStatus result ⊎ WritesAnswerToFile order name told result old new
   to_bytes order name is = by d.said (to_some told before now order name d.status d.text (its order name is))
     where
-      by : SaysText result d.status d.text old new sink_before sink_now → (d.status ≡ 6) ⊎ IsToBytes told before now order name d.status d.text → IsTroubleStatus result ⊎ WritesAnswerToBytes order name told result old new
+      by : SaysText result d.status d.text old new sink_before sink_now → (d.status ≡ 6) ⊎ IsToBytes told before now order name d.status d.text → IsTroubleStatus result ⊎ WritesAnswerToFile order name told result old new
       by (inr s) a = inl (inr (inl s.0))
       by (inl s) (inl e) = inl (inl (s.0 ∙ e))
       by (inl s) (inr b) = inr (record {
         file = b.bytes;
         its = b.its;
-        answer = record { text = d.text; belongs = subst (λ n. Belongs order name b.bytes n d.text) (sym s.0) b.belongs; written = s.1 };
+        answer = record { text = d.text; belongs = subst (λ n. BelongsToFile order name b.bytes n d.text) (sym s.0) b.belongs; written = s.1 };
       })
 
   -- whatever is told, a front of the line of a file that can't be read, or of the answer to bytes that the file has
-  pub cut_short : (order : Order) (name : List ℕ) → IsRow words order name → result ≡ 7 → WritesFrontToBytes order name told before now old new
+  pub cut_short : (order : Order) (name : List ℕ) → AsksFor words order name → result ≡ 7 → WritesFrontToFile order name told before now old new
   cut_short order name is seven = by d.said
     where
-      by : SaysText result d.status d.text old new sink_before sink_now → WritesFrontToBytes order name told before now old new
+      by : SaysText result d.status d.text old new sink_before sink_now → WritesFrontToFile order name told before now old new
       by (inl s) = absurd (not_seven told before now order name d.status d.text (its order name is) (sym s.0 ∙ seven))
       by (inr s) = record { text = d.text; is = some_text told before now order name d.status d.text (its order name is); written = s.1 }
 
   module _ (order : Order) (name file : List ℕ) (asked : IsAskedFile words told order name file) where
-    found : (IsUnread told before now name × (d.status ≡ 6) × (d.text ≡ cannot_read_line name)) ⊎ Belongs order name file d.status d.text
+    found : (IsUnread told before now name × (d.status ≡ 6) × (d.text ≡ cannot_read_line name)) ⊎ BelongsToFile order name file d.status d.text
     found = to_told told before now order name file asked.is_told d.status d.text (its order name asked.is_row)
 
     pub answered : IsTroubleStatus result ⊎ WritesAnswer order name file result old new
     answered = by d.said found
       where
-        by : SaysText result d.status d.text old new sink_before sink_now → (IsUnread told before now name × (d.status ≡ 6) × (d.text ≡ cannot_read_line name)) ⊎ Belongs order name file d.status d.text
+        by : SaysText result d.status d.text old new sink_before sink_now → (IsUnread told before now name × (d.status ≡ 6) × (d.text ≡ cannot_read_line name)) ⊎ BelongsToFile order name file d.status d.text
             → IsTroubleStatus result ⊎ WritesAnswer order name file result old new
         by (inr s) a = inl (inr (inl s.0))
         by (inl s) (inl gone) = inl (inl (s.0 ∙ gone.1))
-        by (inl s) (inr a) = inr (record { text = d.text; belongs = subst (λ n. Belongs order name file n d.text) (sym s.0) a; written = s.1 })
+        by (inl s) (inr a) = inr (record { text = d.text; belongs = subst (λ n. BelongsToFile order name file n d.text) (sym s.0) a; written = s.1 })
 
     pub exact : IsExactStatusOfFile file result
     exact = by answered
@@ -178,11 +178,11 @@ module _ (words : List (List ℕ)) (result : ℕ) (told : List ℕ → Option (L
     pub front : result ≡ 7 → WritesFront order name file told before now old new
     front seven = by d.said found
       where
-        some : (IsUnread told before now name × (d.status ≡ 6) × (d.text ≡ cannot_read_line name)) ⊎ Belongs order name file d.status d.text → IsSomeText order name file told before now d.text
+        some : (IsUnread told before now name × (d.status ≡ 6) × (d.text ≡ cannot_read_line name)) ⊎ BelongsToFile order name file d.status d.text → IsSomeText order name file told before now d.text
         some (inl gone) = subst (IsSomeText order name file told before now) (sym gone.2) (some_unread gone.0)
         some (inr a) = some_answer d.status d.text a
 
-        by : SaysText result d.status d.text old new sink_before sink_now → (IsUnread told before now name × (d.status ≡ 6) × (d.text ≡ cannot_read_line name)) ⊎ Belongs order name file d.status d.text
+        by : SaysText result d.status d.text old new sink_before sink_now → (IsUnread told before now name × (d.status ≡ 6) × (d.text ≡ cannot_read_line name)) ⊎ BelongsToFile order name file d.status d.text
             → WritesFront order name file told before now old new
         by (inl s) a = absurd (not_seven told before now order name d.status d.text (its order name asked.is_row) (sym s.0 ∙ seven))
         by (inr s) a = record { text = d.text; is = some a; written = s.1 }
@@ -190,8 +190,8 @@ module _ (words : List (List ℕ)) (result : ℕ) (told : List ℕ → Option (L
     pub complete : (Rose (before name) (now name) → ⊥) → (Rose sink_before sink_now → ⊥) → (result ≡ 8) ⊎ WritesAnswer order name file result old new
     complete calm sink_calm = by d.said found
       where
-        by : SaysText result d.status d.text old new sink_before sink_now → (IsUnread told before now name × (d.status ≡ 6) × (d.text ≡ cannot_read_line name)) ⊎ Belongs order name file d.status d.text
+        by : SaysText result d.status d.text old new sink_before sink_now → (IsUnread told before now name × (d.status ≡ 6) × (d.text ≡ cannot_read_line name)) ⊎ BelongsToFile order name file d.status d.text
             → (result ≡ 8) ⊎ WritesAnswer order name file result old new
         by (inr s) a = absurd (sink_calm s.2)
         by (inl s) (inl gone) = absurd (calm gone.0.rose)
-        by (inl s) (inr a) = inr (record { text = d.text; belongs = subst (λ n. Belongs order name file n d.text) (sym s.0) a; written = s.1 })
+        by (inl s) (inr a) = inr (record { text = d.text; belongs = subst (λ n. BelongsToFile order name file n d.text) (sym s.0) a; written = s.1 })

@@ -25,7 +25,7 @@ use Rattle.explain_commands.specs.Answers.{ExplainAnswer, no_source, judged, IsJ
 use Rattle.explain_commands.specs.Broken.{broken_methods, ending_for, IsProgramVerdict}
 use Rattle.explain_commands.specs.Explained.{AreTexts, none, more}
 use Rattle.explain_commands.specs.Sentence.{TellsBroken, ExplainsBroken}
-use Rattle.explain_commands.specs.Written.{IsAskedFile, Belongs, too_large, ended, WritesAnswer}
+use Rattle.explain_commands.specs.Written.{IsAskedFile, BelongsToFile, too_large, ended, WritesAnswer}
 use Rattle.explain_commands.proofs.Breaking.{exactly_broken, nothing_explained}
 
 -- the status of how it ends where these methods break their bounds
@@ -91,7 +91,7 @@ module _ (call : Call) (name file : List ℕ) where
   by_answer _ _ (no_source {ending = ending} {line = line} faulty) status written tree P is = absurd (no_source_is_none file ending _ faulty.refused tree P is)
   by_answer _ _ (judged {ending = ending} {text = text} its Q are j) status written tree P is = same_source its tree Q P are is (tells its Q ending text j status written)
 
-  by_belongs : (status : ℕ) (text : List ℕ) → Belongs Why name file status text → call.status ≡ status → Appends call.written_before call.written_after text → length file ≤ longest_source
+  by_belongs : (status : ℕ) (text : List ℕ) → BelongsToFile Why name file status text → call.status ≡ status → Appends call.written_before call.written_after text → length file ≤ longest_source
       → (tree : ProgramTree) (P : Program) → IsWellFormedSource file tree P → TellsBroken call name file tree P
   by_belongs _ _ (too_large over) e written small tree P is = absurd (omega (arith, over, small))
   by_belongs _ _ (ended ending text within answer) e written small tree P is = by_answer ending text answer e written tree P is

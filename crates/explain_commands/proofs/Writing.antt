@@ -12,7 +12,7 @@ use Rattle.explain_text.specs.Blocks.{IsBlock}
 use Rattle.explain_text.specs.Pages.{PageData}
 use Rattle.paths.specs.Paths.{PathData}
 use Rattle.rules.specs.Effect.{Assignment}
-use Rattle.explain_commands.specs.Explained.{AreTexts, AreWithin, aliases_at, more, none}
+use Rattle.explain_commands.specs.Explained.{AreTexts, AreAmongMethods, aliases_at, more, none}
 use Rattle.explain_commands.specs.Listed.{all_lines, lines_from}
 
 -- ---- the listing
@@ -31,7 +31,7 @@ pub seen_in : (xs ys : List Explained) (all : List ExplainedData) → xs ≡ ys 
 seen_in xs ys all same are = ap (map explained_data) same ∙ are
 
 -- each of them is one of so many methods
-pub within_at : (n : ℕ) (xs : List Explained) (i : ℕ) (x : Explained) → i < length xs → x ≡ get_or xs i x → AreWithin n (map explained_data xs) → (explained_data x).method < n
+pub within_at : (n : ℕ) (xs : List Explained) (i : ℕ) (x : Explained) → i < length xs → x ≡ get_or xs i x → AreAmongMethods n (map explained_data xs) → (explained_data x).method < n
 within_at n [] i x below is w = absurd (omega (arith, below))
 within_at n (y ∷ ys) zero x below is w = subst (λ z. (explained_data z).method < n) (sym is) w.0
 within_at n (y ∷ ys) (suc i) x below is w = within_at n ys i x (omega (arith, below)) is w.1

@@ -19,7 +19,7 @@ use Rattle.explain_commands.specs.declared.words.Order.{Order}
 use Rattle.explain_commands.specs.declared.words.Order.TheVariants.{Why, All}
 use Rattle.explain_commands.specs.Broken.{broken_methods, ending_for, IsProgramVerdict}
 use Rattle.explain_commands.specs.Explained.{page_of, AreTexts}
-use Rattle.explain_commands.specs.Faults.{IsFaultLine}
+use Rattle.explain_commands.specs.Faults.{IsSourceFaultLine}
 use Rattle.explain_commands.specs.Listed.{all_lines}
 
 -- the text has the lines of the explanations of a program
@@ -53,6 +53,6 @@ pub record IsJudgedProgram (order : Order) (P : Program) (pages : ℕ → PageDa
 -- what is answered to what is asked of a file: the line for one that is no well-formed source; or, of a well-formed source, how its
 -- program is judged
 pub data ExplainAnswer (order : Order) (name file : List ℕ) : Ending → List ℕ → Type 0 where
-  no_source : {ending : Ending} {line : List ℕ} → IsFaultLine name file ending line → ExplainAnswer order name file ending line
+  no_source : {ending : Ending} {line : List ℕ} → IsSourceFaultLine name file ending line → ExplainAnswer order name file ending line
   judged : {ending : Ending} {text : List ℕ} (tree : ProgramTree) (P : Program) → IsWellFormedSource file tree P → IsJudgedProgram order P (pages_of name file tree) ending text
       → ExplainAnswer order name file ending text

@@ -35,9 +35,9 @@ page_of name text table methods m = record {
 }
 
 -- each of the explained methods is one of the first so many
-abbrev pub AreWithin : ℕ → List ExplainedData → Type 0
-AreWithin n [] = Unit {0}
-AreWithin n (x ∷ xs) = (x.method < n) × AreWithin n xs
+abbrev pub AreAmongMethods : ℕ → List ExplainedData → Type 0
+AreAmongMethods n [] = Unit {0}
+AreAmongMethods n (x ∷ xs) = (x.method < n) × AreAmongMethods n xs
 
 -- the final locals of a method's body that have paths; none of a method that isn't there
 abbrev pub aliases_at : Program → Option Method → List Alias

@@ -6,14 +6,14 @@ use Rattle.sources.specs.declared.refusal.Ending.{Ending}
 use Rattle.sources.specs.Checking.{NoSource}
 
 -- `FILE:LINE:COLUMN: error: KIND`, for a fault of this kind at this offset of the text
-abbrev pub source_fault_line : (name text : List ℕ) → (at : ℕ) → (kind : List ℕ) → List ℕ
-source_fault_line name text at kind = name ++ codes ":" ++ place_text (line_of text at) (column_of text at) ++ codes ": error: " ++ kind ++ codes "\n"
+abbrev pub fault_line_at : (name text : List ℕ) → (at : ℕ) → (kind : List ℕ) → List ℕ
+fault_line_at name text at kind = name ++ codes ":" ++ place_text (line_of text at) (column_of text at) ++ codes ": error: " ++ kind ++ codes "\n"
 
 -- the line for a file that is no well-formed source: it has the place and the kind of the line by which `check` refuses the file, which is
 -- that of the file's first fault. The text is the file, or the front of it that is text.
-pub record IsFaultLine (name file : List ℕ) (ending : Ending) (line : List ℕ) : Type 0 where
+pub record IsSourceFaultLine (name file : List ℕ) (ending : Ending) (line : List ℕ) : Type 0 where
   pub text : List ℕ
   pub at : ℕ
   pub kind : List ℕ
   pub refused : NoSource file ending (refused_line text at kind)
-  pub line_is : line ≡ source_fault_line name text at kind
+  pub line_is : line ≡ fault_line_at name text at kind

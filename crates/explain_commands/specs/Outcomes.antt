@@ -5,11 +5,11 @@ use Rattle.sources.specs.declared.refusal.Ending.{Ending}
 use Rattle.sources.specs.Refusals.{code_of}
 use Rattle.explain_commands.specs.declared.words.Order.{Order}
 use Rattle.explain_commands.specs.Answers.{ExplainAnswer}
-use Rattle.explain_commands.specs.Reading.{IsRead, IsUnread, IsOver}
+use Rattle.explain_commands.specs.Reading.{IsFileRead, IsUnread, IsOver}
 
 -- the status and the text that are to be written
-pub data IsOutcome (order : Order) (name : List ℕ) (told : List ℕ → Option (List ℕ)) (before now : List ℕ → ℕ) : ℕ → List ℕ → Type 0 where
-  unread : IsUnread told before now name → IsOutcome order name told before now 6 (cannot_read_line name)
-  over : IsOver told before now name → IsOutcome order name told before now 10 (too_large_line name)
-  read : (file : List ℕ) (ending : Ending) (text : List ℕ) → IsRead told before now name file → ExplainAnswer order name file ending text
-      → IsOutcome order name told before now (code_of ending) text
+pub data IsExplainOutcome (order : Order) (name : List ℕ) (told : List ℕ → Option (List ℕ)) (before now : List ℕ → ℕ) : ℕ → List ℕ → Type 0 where
+  unread : IsUnread told before now name → IsExplainOutcome order name told before now 6 (cannot_read_line name)
+  over : IsOver told before now name → IsExplainOutcome order name told before now 10 (too_large_line name)
+  read : (file : List ℕ) (ending : Ending) (text : List ℕ) → IsFileRead told before now name file → ExplainAnswer order name file ending text
+      → IsExplainOutcome order name told before now (code_of ending) text

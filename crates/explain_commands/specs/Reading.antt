@@ -8,7 +8,7 @@ abbrev pub HasSameFaults : (before now : List ℕ → ℕ) → Type 0
 HasSameFaults before now = (name : List ℕ) → now name ≡ before name
 
 -- the file was read: where the folder tells it, these are its bytes
-pub record IsRead (told : List ℕ → Option (List ℕ)) (before now : List ℕ → ℕ) (name file : List ℕ) : Type 0 where
+pub record IsFileRead (told : List ℕ → Option (List ℕ)) (before now : List ℕ → ℕ) (name file : List ℕ) : Type 0 where
   pub its : IfSome (told name) (λ bytes. file ≡ bytes)
   pub within : length file ≤ longest_source
   pub quiet : HasSameFaults before now

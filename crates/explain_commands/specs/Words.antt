@@ -5,18 +5,18 @@ use Rattle.explain_commands.specs.declared.words.Order.{Order}
 use Rattle.explain_commands.specs.declared.words.Order.TheVariants.{Why, All}
 
 -- what is written for words that ask for nothing
-abbrev pub usage_line : List ℕ
-usage_line = codes "usage: atomic_why FILE | --all FILE" ++ line_end
+abbrev pub explain_usage_line : List ℕ
+explain_usage_line = codes "usage: atomic_why FILE | --all FILE" ++ line_end
 
 -- the word that asks for the basic of each part
 abbrev pub all_word : List ℕ
 all_word = codes "--all"
 
 -- the words ask for this of the file of this name: they are the name alone, which isn't `--all`; or `--all` and the name
-abbrev pub IsRow : List (List ℕ) → Order → List ℕ → Type 0
-IsRow words Why name = (words ≡ name ∷ []) × (name ≢ all_word)
-IsRow words All name = words ≡ all_word ∷ name ∷ []
+abbrev pub AsksFor : List (List ℕ) → Order → List ℕ → Type 0
+AsksFor words Why name = (words ≡ name ∷ []) × (name ≢ all_word)
+AsksFor words All name = words ≡ all_word ∷ name ∷ []
 
 -- the words ask for nothing
-abbrev pub IsNoRow : List (List ℕ) → Type 0
-IsNoRow words = (order : Order) (name : List ℕ) → IsRow words order name → ⊥
+abbrev pub AsksNothing : List (List ℕ) → Type 0
+AsksNothing words = (order : Order) (name : List ℕ) → AsksFor words order name → ⊥

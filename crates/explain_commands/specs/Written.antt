@@ -11,17 +11,17 @@ use Rattle.sources.specs.Refusals.{code_of}
 use Rattle.explain_commands.specs.declared.words.Order.{Order}
 use Rattle.explain_commands.specs.Answers.{ExplainAnswer}
 use Rattle.explain_commands.specs.Reading.{IsUnread}
-use Rattle.explain_commands.specs.Words.{IsRow}
+use Rattle.explain_commands.specs.Words.{AsksFor}
 
 -- the words ask for this of the file of this name, and the folder tells its bytes
 pub record IsAskedFile (words : List (List ℕ)) (told : List ℕ → Option (List ℕ)) (order : Order) (name file : List ℕ) : Type 0 where
-  pub is_row : IsRow words order name
+  pub is_row : AsksFor words order name
   pub is_told : told name ≡ Some file
 
 -- the status and the text that belong to what is asked and the bytes of the file
-pub data Belongs (order : Order) (name file : List ℕ) : ℕ → List ℕ → Type 0 where
-  too_large : longest_source < length file → Belongs order name file 10 (too_large_line name)
-  ended : (ending : Ending) (text : List ℕ) → length file ≤ longest_source → ExplainAnswer order name file ending text → Belongs order name file (code_of ending) text
+pub data BelongsToFile (order : Order) (name file : List ℕ) : ℕ → List ℕ → Type 0 where
+  too_large : longest_source < length file → BelongsToFile order name file 10 (too_large_line name)
+  ended : (ending : Ending) (text : List ℕ) → length file ≤ longest_source → ExplainAnswer order name file ending text → BelongsToFile order name file (code_of ending) text
 
 -- which status comes for the bytes of the file: 10 exactly where there are too many; else 1 exactly where they are no well-formed source, 2
 -- where they are one for which no assignment is admissible, 0 where they are one for which some assignment is
@@ -34,11 +34,11 @@ pub record IsExactStatusOfFile (file : List ℕ) (result : ℕ) : Type 0 where
 -- the text that belongs to what is asked, the file and the status was written
 pub record WritesAnswer (order : Order) (name file : List ℕ) (status : ℕ) (old new : Option (List ℕ)) : Type 0 where
   pub text : List ℕ
-  pub belongs : Belongs order name file status text
+  pub belongs : BelongsToFile order name file status text
   pub written : Appends old new text
 
 -- the file has bytes, which are those that are told where the folder tells it, and the text that belongs to these and the status was written
-pub record WritesAnswerToBytes (order : Order) (name : List ℕ) (told : List ℕ → Option (List ℕ)) (status : ℕ) (old new : Option (List ℕ)) : Type 0 where
+pub record WritesAnswerToFile (order : Order) (name : List ℕ) (told : List ℕ → Option (List ℕ)) (status : ℕ) (old new : Option (List ℕ)) : Type 0 where
   pub file : List ℕ
   pub its : IfSome (told name) (λ bytes. file ≡ bytes)
   pub answer : WritesAnswer order name file status old new
@@ -46,7 +46,7 @@ pub record WritesAnswerToBytes (order : Order) (name : List ℕ) (told : List �
 -- the text that belongs to some status, or the line of a file that couldn't be read
 pub data IsSomeText (order : Order) (name file : List ℕ) (told : List ℕ → Option (List ℕ)) (before now : List ℕ → ℕ) : List ℕ → Type 0 where
   some_unread : IsUnread told before now name → IsSomeText order name file told before now (cannot_read_line name)
-  some_answer : (status : ℕ) (text : List ℕ) → Belongs order name file status text → IsSomeText order name file told before now text
+  some_answer : (status : ℕ) (text : List ℕ) → BelongsToFile order name file status text → IsSomeText order name file told before now text
 
 -- a front of such a text was written
 pub record WritesFront (order : Order) (name file : List ℕ) (told : List ℕ → Option (List ℕ)) (before now : List ℕ → ℕ) (old new : Option (List ℕ)) : Type 0 where
@@ -58,11 +58,11 @@ pub record WritesFront (order : Order) (name file : List ℕ) (told : List ℕ �
 -- where the folder tells it
 pub data IsSomeTextToBytes (order : Order) (name : List ℕ) (told : List ℕ → Option (List ℕ)) (before now : List ℕ → ℕ) : List ℕ → Type 0 where
   unread_line : IsUnread told before now name → IsSomeTextToBytes order name told before now (cannot_read_line name)
-  answer_to : (file : List ℕ) (status : ℕ) (text : List ℕ) → IfSome (told name) (λ bytes. file ≡ bytes) → Belongs order name file status text
+  answer_to : (file : List ℕ) (status : ℕ) (text : List ℕ) → IfSome (told name) (λ bytes. file ≡ bytes) → BelongsToFile order name file status text
       → IsSomeTextToBytes order name told before now text
 
 -- a front of such a text was written
-pub record WritesFrontToBytes (order : Order) (name : List ℕ) (told : List ℕ → Option (List ℕ)) (before now : List ℕ → ℕ) (old new : Option (List ℕ)) : Type 0 where
+pub record WritesFrontToFile (order : Order) (name : List ℕ) (told : List ℕ → Option (List ℕ)) (before now : List ℕ → ℕ) (old new : Option (List ℕ)) : Type 0 where
   pub text : List ℕ
   pub is : IsSomeTextToBytes order name told before now text
   pub written : AppendsFront old new text

@@ -5,7 +5,7 @@ ghost use Rattle.classes.specs.Views.{table_data};
 ghost use Rattle.core_program.specs.Views.{program_of};
 ghost use Rattle.explain.specs.Views.{explained_data};
 ghost use Rattle.explain_commands.specs.Answers.{Explains};
-ghost use Rattle.explain_commands.specs.Explained.{AreTexts, AreWithin, aliases_at, page_of};
+ghost use Rattle.explain_commands.specs.Explained.{AreTexts, AreAmongMethods, aliases_at, page_of};
 ghost use Rattle.explain_text.specs.Blocks.{IsBlock};
 ghost use Rattle.rules.specs.Near.{rel_of};
 ghost use Rattle.rules.specs.Search.{row_at};
@@ -70,7 +70,7 @@ fn lines_of<A: Assigned>(
     over: &OverridingMethods,
     all: &[Explained<'_>],
 ) -> Result<String, NoMemory>
-    requires { AreWithin (length told.now.methods.now.items) (map explained_data all.now) }
+    requires { AreAmongMethods (length told.now.methods.now.items) (map explained_data all.now) }
     ensures { IfOk result (λ text. AreTexts (program_of walk.now.program.now) (rel_of walk.now.sets.now) (A.Assigned.assigned walk.now.assigned.now)
         (page_of told.now.file.now told.now.index.now (table_data told.now.source.now.table) (map (λ m. member_of m.now) told.now.methods.now.items))
         (row_at over.now) (map explained_data all.now) (string_bytes text)) }

@@ -7,11 +7,11 @@ ghost use Rattle.edge.specs.Calls.{call_record};
 ghost use Rattle.edge.specs.Lines.{cannot_read_line, too_large_line};
 ghost use Rattle.edge.specs.Said.{SaysText, IsTroubleStatus};
 ghost use Rattle.explain_commands.specs.declared.words.Order.{Order as OrderData};
-ghost use Rattle.explain_commands.specs.Outcomes.{IsOutcome};
+ghost use Rattle.explain_commands.specs.Outcomes.{IsExplainOutcome};
 ghost use Rattle.explain_commands.specs.Reading.{HasSameFaults, IsUnread, IsOver};
 ghost use Rattle.explain_commands.specs.Sentence.{ExplainsBroken};
-ghost use Rattle.explain_commands.specs.Words.{IsRow, IsNoRow, usage_line};
-ghost use Rattle.explain_commands.specs.Written.{IsAskedFile, IsExactStatusOfFile, WritesAnswer, WritesAnswerToBytes, WritesFront, WritesFrontToBytes};
+ghost use Rattle.explain_commands.specs.Words.{AsksFor, AsksNothing, explain_usage_line};
+ghost use Rattle.explain_commands.specs.Written.{IsAskedFile, IsExactStatusOfFile, WritesAnswer, WritesAnswerToFile, WritesFront, WritesFrontToFile};
 
 use crate::answering::explain;
 use crate::lines::USAGE;
@@ -36,7 +36,7 @@ fn perform<F: Folder>(
     order: Order,
     name: &str,
 ) -> Result<Outcome, NoMemory>
-    ensures outcome { IfOk result (λ o. IsOutcome order name.now (F.told folder.old) (F.faults folder.old) (F.faults folder.new) o.status (string_bytes o.text)) }
+    ensures outcome { IfOk result (λ o. IsExplainOutcome order name.now (F.told folder.old) (F.faults folder.old) (F.faults folder.new) o.status (string_bytes o.text)) }
     ensures opened { F.opened folder.new ≤ F.opened folder.old + 1 }
 {
     match read_file(alloc, folder, name, LARGEST_SOURCE) {
@@ -66,13 +66,13 @@ fn perform<F: Folder>(
 /// 8, memory was refused; 9, the words ask for nothing; 10, the file is over its limit.
 pub fn run<F: Folder, K: Sink>(alloc: Global, words: &[String], folder: &mut F, sink: &mut K) -> u8
     // Words that ask for nothing: this path takes no memory, so it never answers 8.
-    ensures usage { IsNoRow (map string_bytes words.now) → SaysText result 9 usage_line (K.written sink.old) (K.written sink.new) (K.faults sink.old) (K.faults sink.new) }
-    ensures usage_only { result ≡ 9 → IsNoRow (map string_bytes words.now) }
+    ensures usage { AsksNothing (map string_bytes words.now) → SaysText result 9 explain_usage_line (K.written sink.old) (K.written sink.new) (K.faults sink.old) (K.faults sink.new) }
+    ensures usage_only { result ≡ 9 → AsksNothing (map string_bytes words.now) }
 
     // A file that can't be read, or that is over its limit; and else none failed.
-    ensures cannot_read { (order : OrderData) (name : List ℕ) → IsRow (map string_bytes words.now) order name → result ≡ 6 →
+    ensures cannot_read { (order : OrderData) (name : List ℕ) → AsksFor (map string_bytes words.now) order name → result ≡ 6 →
         IsUnread (F.told folder.old) (F.faults folder.old) (F.faults folder.new) name × Appends (K.written sink.old) (K.written sink.new) (cannot_read_line name) }
-    ensures too_large { (order : OrderData) (name : List ℕ) → IsRow (map string_bytes words.now) order name → result ≡ 10 →
+    ensures too_large { (order : OrderData) (name : List ℕ) → AsksFor (map string_bytes words.now) order name → result ≡ 10 →
         IsOver (F.told folder.old) (F.faults folder.old) (F.faults folder.new) name × Appends (K.written sink.old) (K.written sink.new) (too_large_line name) }
     ensures quiet { IsTroubleStatus result ⊎ HasSameFaults (F.faults folder.old) (F.faults folder.new) }
 
@@ -81,12 +81,12 @@ pub fn run<F: Folder, K: Sink>(alloc: Global, words: &[String], folder: &mut F, 
     ensures no_memory { result ≡ 8 → Keeps (K.written sink.old) (K.written sink.new) }
 
     // Whether or not the folder tells the file: it has bytes to which status and text are the answer.
-    ensures bytes { (order : OrderData) (name : List ℕ) → IsRow (map string_bytes words.now) order name →
-        IsTroubleStatus result ⊎ WritesAnswerToBytes order name (F.told folder.old) result (K.written sink.old) (K.written sink.new) }
+    ensures bytes { (order : OrderData) (name : List ℕ) → AsksFor (map string_bytes words.now) order name →
+        IsTroubleStatus result ⊎ WritesAnswerToFile order name (F.told folder.old) result (K.written sink.old) (K.written sink.new) }
 
     // Where the sink failed, a front of such a text was written, or of the line of a file that can't be read.
-    ensures cut_short { (order : OrderData) (name : List ℕ) → IsRow (map string_bytes words.now) order name → result ≡ 7 →
-        WritesFrontToBytes order name (F.told folder.old) (F.faults folder.old) (F.faults folder.new) (K.written sink.old) (K.written sink.new) }
+    ensures cut_short { (order : OrderData) (name : List ℕ) → AsksFor (map string_bytes words.now) order name → result ≡ 7 →
+        WritesFrontToFile order name (F.told folder.old) (F.faults folder.old) (F.faults folder.new) (K.written sink.old) (K.written sink.new) }
 
     // The file is opened once, so the answer speaks of one file.
     ensures opened { F.opened folder.new ≤ F.opened folder.old + 1 }

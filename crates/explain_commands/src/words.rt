@@ -1,7 +1,7 @@
 //! The words of the command line.
 
 ghost use Rattle.std.specs.Prelude.{◌≡◌, ◌≢◌, ◌∷◌, [], ℕ, List, map, MatchOption, string_bytes};
-ghost use Rattle.explain_commands.specs.Words.{IsRow, IsNoRow, all_word};
+ghost use Rattle.explain_commands.specs.Words.{AsksFor, AsksNothing, all_word};
 
 /// What is asked of a source.
 #[derive(Clone, Copy, Debug, PartialEq, Eq)]
@@ -41,7 +41,7 @@ fn word_behind_flag(words: &[String]) -> Option<&str>
 
 /// What the words ask for, and of which file.
 pub fn row_of(words: &[String]) -> Option<(Order, &str)>
-    ensures { MatchOption result (IsNoRow (map string_bytes words.now)) (λ row. IsRow (map string_bytes words.now) row.0 row.1.now) }
+    ensures { MatchOption result (AsksNothing (map string_bytes words.now)) (λ row. AsksFor (map string_bytes words.now) row.0 row.1.now) }
 {
     if let Some(name) = word_behind_flag(words) {
         return Some((Order::All, name));

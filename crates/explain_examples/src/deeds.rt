@@ -9,7 +9,7 @@ ghost use Rattle.rules.specs.Search.{row_at};
 ghost use Rattle.explain.specs.declared.deeds.Deed.TheVariants as deed;
 ghost use Rattle.explain.specs.declared.deeds.Help.TheVariants as helps;
 ghost use Rattle.explain.specs.declared.names.Lack.TheVariants.{Variable};
-ghost use Rattle.explain.specs.Deeds.{deed_of, help_of, hold_or, no_access_help};
+ghost use Rattle.explain.specs.Deeds.{deed_of_part, help_of, hold_or, no_access_help};
 ghost use Rattle.core_examples.specs.Bodies.{nothing_held};
 ghost use Rattle.core_examples.specs.Fields.{path};
 ghost use Rattle.core_examples.specs.Small.{one};
@@ -17,11 +17,11 @@ ghost use Rattle.explain_examples.specs.Shelf.{shelf, shelf_paths, shelf_levels,
 
 /// What each part does by itself.
 pub fn what_steps_do()
-    ensures accesses { map (λ x. deed_of shelf shelf_paths shelf_levels (row_at overs) x nothing_held) (ExprP (GetE ThisE 0) ∷ ExprP (GetE plain 2) ∷ StmtP (SetFieldS ThisE 2 one) ∷ StmtP (SetFieldS plain 2 one) ∷ []) ≡
+    ensures accesses { map (λ x. deed_of_part shelf shelf_paths shelf_levels (row_at overs) x nothing_held) (ExprP (GetE ThisE 0) ∷ ExprP (GetE plain 2) ∷ StmtP (SetFieldS ThisE 2 one) ∷ StmtP (SetFieldS plain 2 one) ∷ []) ≡
         deed.Reads (Some this_path) 0 guard.Free ∷ deed.Reads None 2 guard.WriteUnnamed ∷ deed.Writes (Some this_path) 2 (guard.WriteNamed this_path) ∷ deed.Writes None 2 guard.WriteUnnamed ∷ [] }
-    ensures calls { map (λ m. deed_of shelf shelf_paths shelf_levels (row_at overs) (ExprP (CallE ThisE m no_exprs)) nothing_held) (0 ∷ 1 ∷ 2 ∷ []) ≡
+    ensures calls { map (λ m. deed_of_part shelf shelf_paths shelf_levels (row_at overs) (ExprP (CallE ThisE m no_exprs)) nothing_held) (0 ∷ 1 ∷ 2 ∷ []) ≡
         deed.Calls 0 Atomic (Some this_path) ∷ deed.Calls 1 Atomic None ∷ deed.Calls 2 Cmpd None ∷ [] }
-    ensures others { map (λ x. deed_of shelf shelf_paths shelf_levels (row_at overs) x nothing_held) (StmtP (SyncS this_path EmptyS) ∷ StmtP (PrintS one) ∷ StmtP (StartS made) ∷ ExprP ThisE ∷ StmtP EmptyS ∷ []) ≡
+    ensures others { map (λ x. deed_of_part shelf shelf_paths shelf_levels (row_at overs) x nothing_held) (StmtP (SyncS this_path EmptyS) ∷ StmtP (PrintS one) ∷ StmtP (StartS made) ∷ ExprP ThisE ∷ StmtP EmptyS ∷ []) ≡
         deed.Locks this_path ∷ deed.Prints ∷ deed.Starts ∷ deed.Other ∷ deed.Other ∷ [] }
 {}
 

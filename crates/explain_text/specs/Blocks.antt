@@ -8,7 +8,7 @@ use Rattle.explain.specs.declared.causes.Cause.{Cause}
 use Rattle.explain.specs.declared.deeds.Help.{Help}
 use Rattle.explain.specs.Around.{around}
 use Rattle.explain.specs.Causes.{ArePaths, cause_of}
-use Rattle.explain.specs.Deeds.{deed_of, help_of}
+use Rattle.explain.specs.Deeds.{deed_of_part, help_of}
 use Rattle.explain.specs.Whys.{WhyData, Wrong, Looped, Compound, Two, Overridden, Nothing, ExplainedData}
 use Rattle.paths.specs.Paths.{PathData}
 use Rattle.report.specs.Verdicts.{title_text}
@@ -66,7 +66,7 @@ cause_line page node held cause = note_line page (node_offset page node) (cause_
 module _ (P : Program) (rel : ℕ → List PathData) (A : Assignment) (page : PageData) where
   -- what a step does, where these methods override each
   abbrev pub step_line : (overs : ℕ → List ℕ) → StepKind → Visit → List ℕ
-  step_line overs kind v = note_line page (node_offset page v.node) (step_lead kind ++ deed_text page (deed_of P rel A overs v.part v.held)) (step_code kind)
+  step_line overs kind v = note_line page (node_offset page v.node) (step_lead kind ++ deed_text page (deed_of_part P rel A overs v.part v.held)) (step_code kind)
 
   -- a help, as the line of a step
   abbrev pub help_note : ℕ → Help → List ℕ

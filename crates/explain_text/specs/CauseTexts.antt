@@ -3,9 +3,9 @@ use Rattle.std.specs.Prelude.{ℕ, Bool, true, false, List, ◌++◌, Option, So
 use Rattle.explain.specs.declared.causes.Cause.{Cause}
 use Rattle.explain.specs.declared.causes.Cause.TheVariants as cause
 use Rattle.paths.specs.Paths.{PathData}
-use Rattle.report.specs.Verdicts.{path_text, title_text}
+use Rattle.report.specs.Verdicts.{method_path_text, title_text}
 use Rattle.explain_text.specs.Pages.{PageData}
-use Rattle.explain_text.specs.Words.{access_text, field_title, held_text, lack_text, path_in}
+use Rattle.explain_text.specs.Words.{access_text, field_title, held_list_text, lack_text, path_in}
 
 -- by how much a guard guards
 abbrev pub guarded : Bool → List ℕ
@@ -14,7 +14,7 @@ guarded true = codes " is guarded for writing by "
 
 -- which locks are held
 abbrev pub holding : PageData → List PathData → List ℕ
-holding page held = codes "; held: " ++ held_text page held
+holding page held = codes "; held: " ++ held_list_text page held
 
 -- that a lock isn't held, or under another name alone
 abbrev pub missing_text : PageData → Option PathData → List ℕ
@@ -23,7 +23,7 @@ missing_text page (Some q) = codes ", which is held here under another name only
 
 -- a call of a method that requires this path, in its own names
 abbrev pub requires_text : PageData → ℕ → PathData → List ℕ
-requires_text page m q = codes "calls " ++ title_text page.table m ++ codes ", which requires " ++ path_text page.table m q
+requires_text page m q = codes "calls " ++ title_text page.table m ++ codes ", which requires " ++ method_path_text page.table m q
 
 -- what is wrong where these paths are held
 abbrev pub cause_text : PageData → List PathData → Cause → List ℕ

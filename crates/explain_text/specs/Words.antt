@@ -35,9 +35,9 @@ more_held page [] = []
 more_held page (p ∷ ps) = codes ", " ++ path_in page p ++ more_held page ps
 
 -- held paths with commas between, or `nothing`
-abbrev pub held_text : PageData → List PathData → List ℕ
-held_text page [] = codes "nothing"
-held_text page (p ∷ ps) = path_in page p ++ more_held page ps
+abbrev pub held_list_text : PageData → List PathData → List ℕ
+held_list_text page [] = codes "nothing"
+held_list_text page (p ∷ ps) = path_in page p ++ more_held page ps
 
 -- why an expression has no path
 abbrev pub lack_text : PageData → Lack → List ℕ

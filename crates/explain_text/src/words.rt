@@ -4,7 +4,7 @@ ghost use Rattle.std.specs.Prelude.{◌≡◌, ◌++◌, [], option_and_then, op
 ghost use Rattle.classes.specs.Views.{table_data};
 ghost use Rattle.report.specs.Verdicts.{field_text};
 ghost use Rattle.explain_text.specs.Views.{page_data};
-ghost use Rattle.explain_text.specs.Words.{access_text, field_title, held_text, lack_text, more_held, path_in};
+ghost use Rattle.explain_text.specs.Words.{access_text, field_title, held_list_text, lack_text, more_held, path_in};
 
 use crate::page::Page;
 use classes::ClassTable;
@@ -94,7 +94,7 @@ pub(crate) fn write_held(
     page: &Page<'_, '_>,
     held: &[Path],
 ) -> Result<(), NoMemory>
-    ensures { OnOk result (string_bytes out.new ≡ string_bytes out.old ++ held_text (page_data page.now) held.now) }
+    ensures { OnOk result (string_bytes out.new ≡ string_bytes out.old ++ held_list_text (page_data page.now) held.now) }
 {
     let Some((first, rest)) = held.split_first() else {
         return out.push_str("nothing");

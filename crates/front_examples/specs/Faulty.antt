@@ -4,15 +4,15 @@ use Rattle.syntax.specs.declared.tree.Param.{Param}
 use Rattle.syntax.specs.declared.tree.TypeName.TheVariants as Y
 use Rattle.syntax.specs.Trees.{NumberE, StmtTrees, LocalS, no_stmts, more_stmts, MemberTree, MethodM, ProgramTree}
 use Rattle.front_examples.specs.Written.{name, param, field, method_tree, class_tree, class_below, this_lock}
-use Rattle.front_examples.specs.Shop.{n_param, main_class}
+use Rattle.front_examples.specs.Shop.{n_param, main_class_tree}
 
 -- a class with these members beside `Main`
 abbrev pub with_main : List MemberTree → ProgramTree
-with_main members = main_class ∷ class_tree (name (codes "C") 10) members ∷ []
+with_main members = main_class_tree ∷ class_tree (name (codes "C") 10) members ∷ []
 
 -- a class with these members, one below it with those, and `Main`
 abbrev pub below_other : List MemberTree → List MemberTree → ProgramTree
-below_other members more = class_tree (name (codes "B") 1) members ∷ class_below (name (codes "C") 20) (name (codes "B") 21) more ∷ main_class ∷ []
+below_other members more = class_tree (name (codes "B") 1) members ∷ class_below (name (codes "C") 20) (name (codes "B") 21) more ∷ main_class_tree ∷ []
 
 -- `atomic int m(final int n) requires this { }`
 abbrev pub same_method : ℕ → MemberTree

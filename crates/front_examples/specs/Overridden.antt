@@ -9,7 +9,7 @@ use Rattle.syntax.specs.declared.tree.TypeName.{TypeName}
 use Rattle.syntax.specs.declared.tree.TypeName.TheVariants as Y
 use Rattle.syntax.specs.Trees.{no_stmts, MethodTree, ProgramTree}
 use Rattle.classes.specs.Overriding.{FieldPlace, FoundField, LockMeaning, Signature, Heading}
-use Rattle.front_examples.specs.Written.{name, class_type_name, param, field, class_tree, class_below, method_tree, this_lock, lock_of}
+use Rattle.front_examples.specs.Written.{name, class_type_name, param, field, class_tree, class_below, method_tree, this_lock, lock_tree}
 use Rattle.front_examples.specs.Shop.{n_param}
 
 -- the program of these three classes
@@ -20,12 +20,12 @@ locked_program =
     ∷ class_tree (name (codes "L") 31) (field true (class_type_name (codes "L") 32) (name (codes "next") 33) ∷ []) ∷ []
 
 -- where a field stands: the number of its class, and its place in it
-abbrev pub place : ℕ → ℕ → FieldPlace
-place class at = record { class = class; place = at }
+abbrev pub field_place : ℕ → ℕ → FieldPlace
+field_place class at = record { class = class; place = at }
 
 -- a field as it was found, in a class or above it
 abbrev pub found : (class at : ℕ) → Bool → TypeName → FoundField
-found class at is_final ty = record { at = place class at; is_final = is_final; ty = ty }
+found class at is_final ty = record { at = field_place class at; is_final = is_final; ty = ty }
 
 -- what a lock means: the slot that it begins at, the places of its fields, and the class that it ends at
 abbrev pub reach : ℕ → List FieldPlace → ℕ → LockMeaning
@@ -40,8 +40,8 @@ abbrev pub signature : Signature
 signature = record { atomic = false; returns = Some Y.Int; params = n_param ∷ []; locks = Some (reach 0 [] 1 ∷ []) }
 
 -- the heading of a method with this name, which stands at 7, and this signature
-abbrev pub heading : List ℕ → Signature → Heading
-heading text its = record { name = name text 7; signature = its }
+abbrev pub method_heading : List ℕ → Signature → Heading
+method_heading text its = record { name = name text 7; signature = its }
 
 -- `void m(final int n) requires this { }`
 abbrev pub requiring : MethodTree
@@ -49,8 +49,8 @@ requiring = record (method_tree (name (codes "m") 0) (n_param ∷ []) None no_st
 
 -- `void pick(final L x) requires x { }`, where the parameter has a name of its own
 abbrev pub pick : List ℕ → MethodTree
-pick text = record (method_tree (name (codes "pick") 0) (param true (class_type_name (codes "L") 0) (name text 0) ∷ []) None no_stmts) { locks = lock_of (Some (name text 0)) [] 0 ∷ [] }
+pick text = record (method_tree (name (codes "pick") 0) (param true (class_type_name (codes "L") 0) (name text 0) ∷ []) None no_stmts) { locks = lock_tree (Some (name text 0)) [] 0 ∷ [] }
 
 -- `void on() requires this.lock { }`, where A and B have locks of their own
 abbrev pub on_lock : MethodTree
-on_lock = record (method_tree (name (codes "on") 0) [] None no_stmts) { locks = lock_of None (name (codes "lock") 0 ∷ []) 0 ∷ [] }
+on_lock = record (method_tree (name (codes "on") 0) [] None no_stmts) { locks = lock_tree None (name (codes "lock") 0 ∷ []) 0 ∷ [] }

@@ -67,8 +67,8 @@ rare = class_below (name (codes "Rare") 30) (name (codes "Item") 31)
     ∷ take_at 40 (GetE (GetE (ThisE 43) (name (codes "twin") 44)) (name (codes "left") 45)) ∷ [])
 
 -- the class Main with an empty `main`
-abbrev pub main_class : ClassTree
-main_class = class_tree (name (codes "Main") 60) (bare_method (name (codes "main") 61) ∷ [])
+abbrev pub main_class_tree : ClassTree
+main_class_tree = class_tree (name (codes "Main") 60) (bare_method (name (codes "main") 61) ∷ [])
 
 -- the class Job, which implements Runnable
 abbrev pub job : ClassTree
@@ -76,7 +76,7 @@ job = record (class_tree (name (codes "Job") 70) (bare_method (name (codes "run"
 
 -- the whole program, in which Item is the class 0, Rare 1, Main 2 and Job 3
 abbrev pub shop : ProgramTree
-shop = item ∷ rare ∷ main_class ∷ job ∷ []
+shop = item ∷ rare ∷ main_class_tree ∷ job ∷ []
 
 -- its class table
 abbrev pub shop_table : TableData

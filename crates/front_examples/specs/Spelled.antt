@@ -7,7 +7,7 @@ use Rattle.syntax.specs.declared.tree.Op.TheVariants as O
 use Rattle.syntax.specs.declared.tree.TypeName.TheVariants as Y
 use Rattle.syntax.specs.Tokens.{token, name_token, number_token}
 use Rattle.syntax.specs.Trees.{ExprTree, BinaryE, StmtTree, EmptyS, MethodTree}
-use Rattle.front_examples.specs.Written.{name, x_name, x, seven, param, method_tree, this_lock, lock_of, one_stmt}
+use Rattle.front_examples.specs.Written.{name, x_name, x, seven_tree, param, method_tree, this_lock, lock_tree, one_stmt}
 
 -- the token of the name `x`, at 9
 abbrev pub x_token : Token
@@ -27,7 +27,7 @@ f_token = name_token f
 
 -- `x + 7`
 abbrev pub sum : ExprTree
-sum = BinaryE O.Add x seven 10
+sum = BinaryE O.Add x seven_tree 10
 
 -- `;`
 abbrev pub empty : StmtTree
@@ -39,4 +39,4 @@ empty_token = token T.Semicolon 8
 
 -- `atomic int f(final int x) requires this, x { ; }`
 abbrev pub full_method : MethodTree
-full_method = record (method_tree f (param true Y.Int x_name ∷ []) (Some Y.Int) (one_stmt empty)) { atomic = true; locks = this_lock ∷ lock_of (Some x_name) [] 9 ∷ [] }
+full_method = record (method_tree f (param true Y.Int x_name ∷ []) (Some Y.Int) (one_stmt empty)) { atomic = true; locks = this_lock ∷ lock_tree (Some x_name) [] 9 ∷ [] }

@@ -73,8 +73,8 @@ abbrev pub get_of : ExprTree → List ℕ → ExprTree
 get_of e text = GetE e (name text 5)
 
 -- `e.m(..)`, with the method's name at 5
-abbrev pub call_tree : ExprTree → List ℕ → ExprTrees → ExprTree
-call_tree e text args = CallE e (name text 5) args
+abbrev pub method_call_tree : ExprTree → List ℕ → ExprTrees → ExprTree
+method_call_tree e text args = CallE e (name text 5) args
 
 -- `new C(..)`, with the class's name at 4
 abbrev pub new_of : List ℕ → ExprTrees → ExprTree

@@ -6,8 +6,8 @@ use Rattle.syntax.specs.declared.tree.Op.TheVariants as O
 use Rattle.syntax.specs.declared.tree.TypeName.TheVariants as Y
 use Rattle.syntax.specs.Trees.{NumberE, ThisE, BinaryE, GetE, CallE, NewE, no_exprs, StmtTree, LocalS, SetFieldS, DoS, SyncS, PrintS, StartS, more_stmts, MethodTree, FieldM, CtorM, MethodM, ProgramTree}
 use Rattle.classes.specs.Table.{TableData, table_of}
-use Rattle.front_examples.specs.Written.{name, class_type_name, variable_at, param, field_tree, field, method_tree, method, bare_method, class_tree, class_below, this_lock, lock_of, one_expr, one_stmt}
-use Rattle.front_examples.specs.Shop.{n_param, main_class}
+use Rattle.front_examples.specs.Written.{name, class_type_name, variable_at, param, field_tree, field, method_tree, method, bare_method, class_tree, class_below, this_lock, lock_tree, one_expr, one_stmt}
+use Rattle.front_examples.specs.Shop.{n_param, main_class_tree}
 use Rattle.front_examples.specs.Knots.{core_path}
 use Rattle.front_examples.specs.Typing.{var_b, local_y}
 
@@ -45,15 +45,15 @@ jobs =
     ∷ class_tree (name (codes "Base") 11) (field false Y.Int (name (codes "b") 12) ∷ bare_method (name (codes "m") 13) ∷ [])
     ∷ class_below (name (codes "Late") 21) (name (codes "Job") 22)
     (field true Y.Int (name (codes "c") 23) ∷ CtorM (name (codes "Late") 24) (param false Y.Int (name (codes "c") 25) ∷ []) ((name (codes "c") 26, name (codes "c") 27) ∷ []) ∷ bare_method (name (codes "m") 28) ∷ [])
-    ∷ main_class ∷ []
+    ∷ main_class_tree ∷ []
 
 -- the class table of this program
 abbrev pub jobs_table : TableData
 jobs_table = table_of jobs
 
 -- `new Thread(new W(c)).start();`
-abbrev pub start_worker : StmtTree
-start_worker = StartS (NewE (name (codes "W") 7) (one_expr (variable_at (codes "c") 8)) 6) 5
+abbrev pub start_worker_tree : StmtTree
+start_worker_tree = StartS (NewE (name (codes "W") 7) (one_expr (variable_at (codes "c") 8)) 6) 5
 
 -- the counter program, with the offsets of its methods' names
 abbrev pub counter_tree : ProgramTree
@@ -68,7 +68,7 @@ counter_tree =
     ∷ method (name (codes "run") 187) [] None (one_stmt (DoS (CallE (GetE (ThisE 5) (name (codes "c") 6)) (name (codes "inc") 7) no_exprs) 5)) ∷ [])) { runnable = true }
     ∷ class_tree (name (codes "Main") 220)
     (method (name (codes "main") 231) [] None
-    (more_stmts (LocalS true (class_type_name (codes "Cell") 3) (name (codes "c") 4) (NewE (name (codes "Cell") 6) no_exprs 5) 2) (more_stmts start_worker (one_stmt start_worker))) ∷ []) ∷ []
+    (more_stmts (LocalS true (class_type_name (codes "Cell") 3) (name (codes "c") 4) (NewE (name (codes "Cell") 6) no_exprs 5) 2) (more_stmts start_worker_tree (one_stmt start_worker_tree))) ∷ []) ∷ []
 
 -- A guard that is no lock, a method that prints a truth and returns nothing, and another one that prints a truth:
 --     class A { int a guarded_by this.a; int m(boolean b) { System.out.println(b); } }
@@ -76,7 +76,7 @@ counter_tree =
 abbrev pub two_faults : ProgramTree
 two_faults =
     class_tree (name (codes "A") 1)
-    (FieldM (record (field_tree false Y.Int (name (codes "a") 2)) { guard = Some (lock_of None (name (codes "a") 5 ∷ []) 4) })
+    (FieldM (record (field_tree false Y.Int (name (codes "a") 2)) { guard = Some (lock_tree None (name (codes "a") 5 ∷ []) 4) })
     ∷ method (name (codes "m") 6) (param false Y.Boolean (name (codes "b") 7) ∷ []) (Some Y.Int) (one_stmt (PrintS (var_b 12) 11)) ∷ [])
     ∷ class_tree (name (codes "Main") 15) (method (name (codes "main") 16) (param false Y.Boolean (name (codes "b") 17) ∷ []) None (one_stmt (PrintS (var_b 22) 21)) ∷ []) ∷ []
 
@@ -84,5 +84,5 @@ two_faults =
 abbrev pub locking : MethodTree
 locking = record (method_tree (name (codes "m") 3) (n_param ∷ []) None (one_stmt local_y)) {
   atomic = true;
-  locks = lock_of None (name (codes "twin") 5 ∷ []) 4 ∷ this_lock ∷ lock_of None (name (codes "twin") 6 ∷ []) 4 ∷ [];
+  locks = lock_tree None (name (codes "twin") 5 ∷ []) 4 ∷ this_lock ∷ lock_tree None (name (codes "twin") 6 ∷ []) 4 ∷ [];
 }

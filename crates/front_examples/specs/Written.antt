@@ -31,16 +31,16 @@ abbrev pub x : ExprTree
 x = VarE x_name
 
 -- the number 7, at 8
-abbrev pub seven : ExprTree
-seven = NumberE 7 8
+abbrev pub seven_tree : ExprTree
+seven_tree = NumberE 7 8
 
 -- the locks `this`, and a variable or `this` with fields behind it
 abbrev pub this_lock : LockTree
 this_lock = record { root = None; fields = []; at = 5 }
 
 -- a lock with this root, or `this` without one, and these fields behind it
-abbrev pub lock_of : Option Name → List Name → ℕ → LockTree
-lock_of root fields at = record { root = root; fields = fields; at = at }
+abbrev pub lock_tree : Option Name → List Name → ℕ → LockTree
+lock_tree root fields at = record { root = root; fields = fields; at = at }
 
 -- the operators, from the loosest to the tightest
 abbrev pub all_ops : List Op
@@ -48,12 +48,12 @@ all_ops = O.Or ∷ O.And ∷ O.Eq ∷ O.Ne ∷ O.Lt ∷ O.Le ∷ O.Gt ∷ O.Ge �
 
 -- an expression of each kind, with the offset 1 where it has one of its own
 abbrev pub all_exprs : List ExprTree
-all_exprs = NumberE 7 1 ∷ LeastE 1 ∷ TruthE true 1 ∷ NullE 1 ∷ ThisE 1 ∷ x ∷ ParenE x 1 ∷ NotE x 1 ∷ NegE x 1 ∷ BinaryE O.Add seven x 1 ∷ GetE x (name (codes "f") 11)
+all_exprs = NumberE 7 1 ∷ LeastE 1 ∷ TruthE true 1 ∷ NullE 1 ∷ ThisE 1 ∷ x ∷ ParenE x 1 ∷ NotE x 1 ∷ NegE x 1 ∷ BinaryE O.Add seven_tree x 1 ∷ GetE x (name (codes "f") 11)
     ∷ CallE x (name (codes "m") 11) no_exprs ∷ NewE (name (codes "C") 5) no_exprs 1 ∷ []
 
 -- a statement of each kind, at the offset 1
 abbrev pub all_stmts : List StmtTree
-all_stmts = EmptyS 1 ∷ BlockS no_stmts 1 ∷ LocalS true Y.Int (name (codes "y") 5) x 1 ∷ SetVarS (name (codes "y") 5) x 1 ∷ SetFieldS x (name (codes "f") 11) seven 1
+all_stmts = EmptyS 1 ∷ BlockS no_stmts 1 ∷ LocalS true Y.Int (name (codes "y") 5) x 1 ∷ SetVarS (name (codes "y") 5) x 1 ∷ SetFieldS x (name (codes "f") 11) seven_tree 1
     ∷ DoS (NewE (name (codes "C") 5) no_exprs 1) 1 ∷ IfS x (EmptyS 12) 1 ∷ IfElseS x (EmptyS 12) (EmptyS 19) 1 ∷ WhileS x (EmptyS 12) 1 ∷ SyncS this_lock no_stmts 1
     ∷ ReturnS None 1 ∷ PrintS x 1 ∷ StartS x 1 ∷ []
 

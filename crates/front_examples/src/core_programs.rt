@@ -8,8 +8,8 @@ ghost use Rattle.syntax.specs.declared.tree.TypeName.TheVariants as Y;
 ghost use Rattle.syntax.specs.Trees.{EmptyS, ReturnS, FieldM, no_stmts};
 ghost use Rattle.typing.specs.declared.fault.TypeFault.TheVariants.{UnknownName, NoRule, NotALock, MissingReturn, TooManyLocals};
 ghost use Rattle.typing.specs.Classes.{field_numbers, ancestors_in, inherited_count, runner, class_of_number, own_field_numbers, is_final_in};
-ghost use Rattle.typing.specs.Programs.{all_there, chosen_by_order, inserted, ascending, method_faults, method_core, member_type_faults, fields_core, type_faults, core_of, IsFirstTypeFault, IsCoreOf};
-ghost use Rattle.front_examples.specs.Written.{name, field_tree, field, method_tree, bare_method, lock_of, one_stmt};
+ghost use Rattle.typing.specs.Programs.{all_there, chosen_by_order, inserted, ascending, method_faults, method_core, member_type_faults, fields_core, program_type_faults, core_of, IsFirstTypeFault, IsCoreOf};
+ghost use Rattle.front_examples.specs.Written.{name, field_tree, field, method_tree, bare_method, lock_tree, one_stmt};
 ghost use Rattle.front_examples.specs.Shop.{shop, shop_table, n_param, right_constructor};
 ghost use Rattle.front_examples.specs.Faulty.{numbered_locals};
 ghost use Rattle.front_examples.specs.Knots.{core_path};
@@ -19,11 +19,11 @@ ghost use Rattle.front_examples.specs.Whole.{shop_core, jobs_table, counter_tree
 /// Whole programs: that of the shop, and the counter program that the examples of the rules and of the machine speak of.
 pub fn what_core_programs_are()
     ensures shop { core_of shop ≡ Some shop_core }
-    ensures no_faults { type_faults shop ≡ [] }
+    ensures no_faults { program_type_faults shop ≡ [] }
     ensures is_core { IsCoreOf shop shop_core }
     ensures counter { core_of counter_tree ≡ Some counter }
     ensures no_core { core_of two_faults ≡ None }
-    ensures faults { type_faults two_faults ≡ NotALock 4 ∷ NoRule 11 ∷ MissingReturn 99 ∷ NoRule 21 ∷ [] }
+    ensures faults { program_type_faults two_faults ≡ NotALock 4 ∷ NoRule 11 ∷ MissingReturn 99 ∷ NoRule 21 ∷ [] }
     ensures told { IsFirstTypeFault two_faults (NotALock 4) }
     ensures not_told { IsFirstTypeFault two_faults (NoRule 11) → ⊥ }
 {}
@@ -70,7 +70,7 @@ pub fn what_core_methods_are()
     ensures many_locals { method_faults shop_table 0 (method_tree (name (codes "m") 3) [] None (numbered_locals 100 64)) ≡ [] }
     ensures too_many_locals { method_faults shop_table 0 (method_tree (name (codes "m") 3) [] None (numbered_locals 100 65)) ≡ TooManyLocals 164 ∷ [] }
     ensures void { method_faults shop_table 0 (method_tree (name (codes "m") 3) [] None (one_stmt (EmptyS 7))) ≡ [] }
-    ensures lock_of_another_parameter { method_faults shop_table 0 (record (method_tree (name (codes "m") 3) (n_param ∷ []) None no_stmts) { locks = lock_of (Some (name (codes "n") 5)) [] 5 ∷ [] }) ≡ NotALock 5 ∷ [] }
+    ensures lock_of_another_parameter { method_faults shop_table 0 (record (method_tree (name (codes "m") 3) (n_param ∷ []) None no_stmts) { locks = lock_tree (Some (name (codes "n") 5)) [] 5 ∷ [] }) ≡ NotALock 5 ∷ [] }
 {}
 
 /// A field's index follows those from above, and its guard begins at `this`.
@@ -78,12 +78,12 @@ pub fn what_core_fields_are()
     ensures second { fields_core shop_table 1 2 (field false Y.Int (name (codes "a") 1) ∷ bare_method (name (codes "m") 2) ∷ field true Y.Boolean (name (codes "b") 3) ∷ []) ≡
         Some (record { class = 1; index = 2; is_final = false; ty = T.Int; guard = None; writes_only = false })
         ∷ Some (record { class = 1; index = 3; is_final = true; ty = T.Boolean; guard = None; writes_only = false }) ∷ [] }
-    ensures guarded { fields_core shop_table 1 0 (FieldM (record (field_tree false Y.Int (name (codes "a") 1)) { guard = Some (lock_of None (name (codes "twin") 5 ∷ []) 4); writes_only = true }) ∷ []) ≡
+    ensures guarded { fields_core shop_table 1 0 (FieldM (record (field_tree false Y.Int (name (codes "a") 1)) { guard = Some (lock_tree None (name (codes "twin") 5 ∷ []) 4); writes_only = true }) ∷ []) ≡
         Some (record { class = 1; index = 0; is_final = false; ty = T.Int; guard = Some (core_path 0 (2 ∷ [])); writes_only = true }) ∷ [] }
-    ensures no_guard { fields_core shop_table 0 0 (FieldM (record (field_tree false Y.Int (name (codes "a") 1)) { guard = Some (lock_of None (name (codes "price") 5 ∷ []) 4) }) ∷ []) ≡ None ∷ [] }
-    ensures faults { member_type_faults shop_table 0 (FieldM (record (field_tree false Y.Int (name (codes "a") 1)) { guard = Some (lock_of None (name (codes "price") 5 ∷ []) 4) })) ≡ NotALock 4 ∷ [] }
+    ensures no_guard { fields_core shop_table 0 0 (FieldM (record (field_tree false Y.Int (name (codes "a") 1)) { guard = Some (lock_tree None (name (codes "price") 5 ∷ []) 4) }) ∷ []) ≡ None ∷ [] }
+    ensures faults { member_type_faults shop_table 0 (FieldM (record (field_tree false Y.Int (name (codes "a") 1)) { guard = Some (lock_tree None (name (codes "price") 5 ∷ []) 4) })) ≡ NotALock 4 ∷ [] }
     ensures no_faults { member_type_faults shop_table 0 (field false Y.Int (name (codes "a") 1)) ≡ [] }
-    ensures no_variable { member_type_faults shop_table 0 (FieldM (record (field_tree false Y.Int (name (codes "a") 1)) { guard = Some (lock_of (Some (name (codes "n") 4)) [] 4) })) ≡ UnknownName 4 ∷ [] }
+    ensures no_variable { member_type_faults shop_table 0 (FieldM (record (field_tree false Y.Int (name (codes "a") 1)) { guard = Some (lock_tree (Some (name (codes "n") 4)) [] 4) })) ≡ UnknownName 4 ∷ [] }
     ensures constructor { member_type_faults shop_table 0 right_constructor ≡ [] }
 {}
 

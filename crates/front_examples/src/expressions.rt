@@ -12,7 +12,7 @@ ghost use Rattle.typing.specs.Rules.{typed, type_rule, final_types, logical_node
 ghost use Rattle.typing.specs.Scopes.{is_bound, this_variable, scope_of_parameters};
 ghost use Rattle.front_examples.specs.Written.{name, x, variable_at, one_expr};
 ghost use Rattle.front_examples.specs.Shop.{shop_table, in_scope, n_param};
-ghost use Rattle.front_examples.specs.Typing.{type_at, faults_at, var_n, var_b, var_r, var_i, n_core, b_core, r_core, i_core, call_tree, get_of, new_of};
+ghost use Rattle.front_examples.specs.Typing.{type_at, faults_at, var_n, var_b, var_r, var_i, n_core, b_core, r_core, i_core, method_call_tree, get_of, new_of};
 
 /// What expressions without parts are, and where a name isn't known or a number is too large.
 pub fn what_leaves_are()
@@ -70,20 +70,20 @@ pub fn what_receivers_have()
     ensures field_of_an_int { faults_at (get_of (var_n 3) (codes "sold")) ≡ NoRule 5 ∷ [] }
     ensures field_of_null { faults_at (get_of (NullE 3) (codes "sold")) ≡ NoRule 5 ∷ [] }
     ensures field_of_nothing { faults_at (get_of x (codes "sold")) ≡ UnknownName 9 ∷ [] }
-    ensures own_method { type_at (call_tree (var_r 3) (codes "take") (one_expr (var_n 7))) ≡ Some (typed int_type (core.CallE r_core 2 (core.and_expr n_core core.no_exprs))) }
-    ensures method_above { type_at (call_tree (var_i 3) (codes "take") (one_expr (var_n 7))) ≡ Some (typed int_type (core.CallE i_core 0 (core.and_expr n_core core.no_exprs))) }
-    ensures inherited_method { type_at (call_tree (var_r 3) (codes "log") no_exprs) ≡ Some (typed VoidT (core.CallE r_core 1 core.no_exprs)) }
-    ensures unknown_method { faults_at (call_tree (var_r 3) (codes "x") no_exprs) ≡ UnknownName 5 ∷ [] }
-    ensures method_of_a_truth { faults_at (call_tree (var_b 3) (codes "log") no_exprs) ≡ NoRule 5 ∷ [] }
-    ensures too_few { faults_at (call_tree (var_r 3) (codes "take") no_exprs) ≡ NoRule 5 ∷ [] }
-    ensures too_many { faults_at (call_tree (var_r 3) (codes "take") (more_exprs (var_n 7) (one_expr (var_n 8)))) ≡ NoRule 5 ∷ [] }
-    ensures no_fit { faults_at (call_tree (var_r 3) (codes "take") (one_expr (var_b 7))) ≡ NoRule 5 ∷ [] }
-    ensures void_argument { faults_at (call_tree (var_r 3) (codes "take") (one_expr (call_tree (var_r 6) (codes "log") no_exprs))) ≡ NoRule 5 ∷ [] }
-    ensures unknown_argument { faults_at (call_tree (var_r 3) (codes "take") (one_expr x)) ≡ UnknownName 9 ∷ [] }
-    ensures unknown_second_argument { faults_at (call_tree (var_r 3) (codes "take") (more_exprs (var_n 7) (one_expr x))) ≡ UnknownName 9 ∷ [] }
-    ensures unknown_method_and_argument { faults_at (call_tree (var_r 3) (codes "x") (one_expr x)) ≡ UnknownName 9 ∷ UnknownName 5 ∷ [] }
-    ensures unknown_receiver { faults_at (call_tree x (codes "take") (one_expr (NotE (var_n 8) 7))) ≡ UnknownName 9 ∷ NoRule 7 ∷ [] }
-    ensures no_receiver_and_argument { faults_at (call_tree (var_n 3) (codes "take") (one_expr x)) ≡ UnknownName 9 ∷ [] }
+    ensures own_method { type_at (method_call_tree (var_r 3) (codes "take") (one_expr (var_n 7))) ≡ Some (typed int_type (core.CallE r_core 2 (core.and_expr n_core core.no_exprs))) }
+    ensures method_above { type_at (method_call_tree (var_i 3) (codes "take") (one_expr (var_n 7))) ≡ Some (typed int_type (core.CallE i_core 0 (core.and_expr n_core core.no_exprs))) }
+    ensures inherited_method { type_at (method_call_tree (var_r 3) (codes "log") no_exprs) ≡ Some (typed VoidT (core.CallE r_core 1 core.no_exprs)) }
+    ensures unknown_method { faults_at (method_call_tree (var_r 3) (codes "x") no_exprs) ≡ UnknownName 5 ∷ [] }
+    ensures method_of_a_truth { faults_at (method_call_tree (var_b 3) (codes "log") no_exprs) ≡ NoRule 5 ∷ [] }
+    ensures too_few { faults_at (method_call_tree (var_r 3) (codes "take") no_exprs) ≡ NoRule 5 ∷ [] }
+    ensures too_many { faults_at (method_call_tree (var_r 3) (codes "take") (more_exprs (var_n 7) (one_expr (var_n 8)))) ≡ NoRule 5 ∷ [] }
+    ensures no_fit { faults_at (method_call_tree (var_r 3) (codes "take") (one_expr (var_b 7))) ≡ NoRule 5 ∷ [] }
+    ensures void_argument { faults_at (method_call_tree (var_r 3) (codes "take") (one_expr (method_call_tree (var_r 6) (codes "log") no_exprs))) ≡ NoRule 5 ∷ [] }
+    ensures unknown_argument { faults_at (method_call_tree (var_r 3) (codes "take") (one_expr x)) ≡ UnknownName 9 ∷ [] }
+    ensures unknown_second_argument { faults_at (method_call_tree (var_r 3) (codes "take") (more_exprs (var_n 7) (one_expr x))) ≡ UnknownName 9 ∷ [] }
+    ensures unknown_method_and_argument { faults_at (method_call_tree (var_r 3) (codes "x") (one_expr x)) ≡ UnknownName 9 ∷ UnknownName 5 ∷ [] }
+    ensures unknown_receiver { faults_at (method_call_tree x (codes "take") (one_expr (NotE (var_n 8) 7))) ≡ UnknownName 9 ∷ NoRule 7 ∷ [] }
+    ensures no_receiver_and_argument { faults_at (method_call_tree (var_n 3) (codes "take") (one_expr x)) ≡ UnknownName 9 ∷ [] }
 {}
 
 /// A new object has a value for each final field, those from above first.

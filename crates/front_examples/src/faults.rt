@@ -8,13 +8,13 @@ ghost use Rattle.classes.specs.First.{comes_before, first_noted};
 ghost use Rattle.classes.specs.Limits.{most_class_fields, most_method_parameters};
 ghost use Rattle.front_examples.specs.Written.{name, class_type_name, param, field, method_tree, method, bare_method, class_tree, class_below};
 ghost use Rattle.front_examples.specs.Lined.{lined, b_field};
-ghost use Rattle.front_examples.specs.Shop.{n_param, main_class, shop};
+ghost use Rattle.front_examples.specs.Shop.{n_param, main_class_tree, shop};
 ghost use Rattle.front_examples.specs.Faulty.{with_main, below_other, same_method, numbered_fields, numbered_params};
 
 /// A program without faults, and each fault in one that is else without.
 pub fn which_faults_there_are()
     ensures none { all_class_faults shop ≡ [] }
-    ensures class_twice { all_class_faults (main_class ∷ class_tree (name (codes "Main") 99) [] ∷ []) ≡ Twice 99 ∷ [] }
+    ensures class_twice { all_class_faults (main_class_tree ∷ class_tree (name (codes "Main") 99) [] ∷ []) ≡ Twice 99 ∷ [] }
     ensures field_twice { all_class_faults (with_main (field false Y.Int (name (codes "f") 1) ∷ field false Y.Boolean (name (codes "f") 2) ∷ [])) ≡ Twice 2 ∷ [] }
     ensures inherited_field { all_class_faults (below_other (field false Y.Int (name (codes "f") 2) ∷ []) (field false Y.Boolean (name (codes "f") 8) ∷ [])) ≡ Twice 8 ∷ [] }
     ensures method_twice { all_class_faults (with_main (bare_method (name (codes "m") 1) ∷ bare_method (name (codes "m") 2) ∷ [])) ≡ Twice 2 ∷ [] }
@@ -22,14 +22,14 @@ pub fn which_faults_there_are()
     ensures unknown_field_type { all_class_faults (with_main (field false (class_type_name (codes "X") 1) (name (codes "f") 2) ∷ [])) ≡ UnknownClass 1 ∷ [] }
     ensures unknown_result { all_class_faults (with_main (method (name (codes "m") 2) [] (Some (class_type_name (codes "X") 1)) no_stmts ∷ [])) ≡ UnknownClass 1 ∷ [] }
     ensures unknown_parameter_type { all_class_faults (with_main (method (name (codes "m") 2) (param false (class_type_name (codes "X") 3) (name (codes "p") 4) ∷ []) None no_stmts ∷ [])) ≡ UnknownClass 3 ∷ [] }
-    ensures unknown_above { all_class_faults (main_class ∷ class_below (name (codes "C") 1) (name (codes "X") 2) [] ∷ []) ≡ UnknownClass 2 ∷ [] }
-    ensures missing_constructor { all_class_faults (main_class ∷ class_tree (name (codes "C") 1) (b_field ∷ []) ∷ []) ≡ BadConstructor 1 ∷ [] }
+    ensures unknown_above { all_class_faults (main_class_tree ∷ class_below (name (codes "C") 1) (name (codes "X") 2) [] ∷ []) ≡ UnknownClass 2 ∷ [] }
+    ensures missing_constructor { all_class_faults (main_class_tree ∷ class_tree (name (codes "C") 1) (b_field ∷ []) ∷ []) ≡ BadConstructor 1 ∷ [] }
     ensures inherited_final { all_class_faults (below_other (b_field ∷ CtorM (name (codes "B") 4) (param false Y.Int (name (codes "b") 5) ∷ []) ((name (codes "b") 6, name (codes "b") 7) ∷ []) ∷ []) []) ≡ BadConstructor 20 ∷ [] }
-    ensures needless_constructor { all_class_faults (main_class ∷ class_tree (name (codes "C") 1) (CtorM (name (codes "C") 2) [] [] ∷ []) ∷ []) ≡ BadConstructor 2 ∷ [] }
-    ensures no_run { all_class_faults (main_class ∷ record (class_tree (name (codes "C") 1) []) { runnable = true } ∷ []) ≡ NoRun 1 ∷ [] }
-    ensures run_with_result { all_class_faults (main_class ∷ record (class_tree (name (codes "C") 1) (method (name (codes "run") 2) [] (Some Y.Int) no_stmts ∷ [])) { runnable = true } ∷ []) ≡ NoRun 1 ∷ [] }
-    ensures circle { all_class_faults (main_class ∷ class_below (name (codes "C") 1) (name (codes "C") 2) [] ∷ []) ≡ Circle 1 ∷ [] }
-    ensures below_a_circle { all_class_faults (main_class ∷ class_below (name (codes "C") 1) (name (codes "C") 2) [] ∷ class_below (name (codes "D") 3) (name (codes "C") 4) [] ∷ []) ≡ Circle 1 ∷ Circle 3 ∷ [] }
+    ensures needless_constructor { all_class_faults (main_class_tree ∷ class_tree (name (codes "C") 1) (CtorM (name (codes "C") 2) [] [] ∷ []) ∷ []) ≡ BadConstructor 2 ∷ [] }
+    ensures no_run { all_class_faults (main_class_tree ∷ record (class_tree (name (codes "C") 1) []) { runnable = true } ∷ []) ≡ NoRun 1 ∷ [] }
+    ensures run_with_result { all_class_faults (main_class_tree ∷ record (class_tree (name (codes "C") 1) (method (name (codes "run") 2) [] (Some Y.Int) no_stmts ∷ [])) { runnable = true } ∷ []) ≡ NoRun 1 ∷ [] }
+    ensures circle { all_class_faults (main_class_tree ∷ class_below (name (codes "C") 1) (name (codes "C") 2) [] ∷ []) ≡ Circle 1 ∷ [] }
+    ensures below_a_circle { all_class_faults (main_class_tree ∷ class_below (name (codes "C") 1) (name (codes "C") 2) [] ∷ class_below (name (codes "D") 3) (name (codes "C") 4) [] ∷ []) ≡ Circle 1 ∷ Circle 3 ∷ [] }
     ensures bad_override { all_class_faults (below_other (bare_method (name (codes "m") 2) ∷ []) (MethodM (record (method_tree (name (codes "m") 8) [] None no_stmts) { atomic = true }) ∷ [])) ≡ BadOverride 8 ∷ [] }
     ensures good_override { all_class_faults (below_other (same_method 2 ∷ []) (same_method 8 ∷ [])) ≡ [] }
     ensures no_main { all_class_faults [] ≡ NoMain ∷ [] }
@@ -59,7 +59,7 @@ pub fn which_classes_begin()
     ensures not_runnable { missing_run (name (codes "C") 5) false [] ≡ [] }
     ensures run { missing_run (name (codes "C") 5) true (bare_method (name (codes "run") 1) ∷ []) ≡ [] }
     ensures no_run { missing_run (name (codes "C") 5) true (bare_method (name (codes "runs") 1) ∷ []) ≡ NoRun 5 ∷ [] }
-    ensures later_class { missing_main (class_tree (name (codes "A") 0) [] ∷ main_class ∷ []) ≡ [] }
+    ensures later_class { missing_main (class_tree (name (codes "A") 0) [] ∷ main_class_tree ∷ []) ≡ [] }
 {}
 
 /// The first fault is the one with the least offset, at one offset the one that stands first in the table; `NoMain` comes last.

@@ -8,7 +8,7 @@ ghost use Rattle.syntax.specs.Grammar.{Spells, SpellsLock, SpellsStmt, SpellsPar
 ghost use Rattle.syntax.specs.Tokens.{token, number_token};
 ghost use Rattle.syntax.specs.Trees.{NumberE, LeastE, TruthE, NullE, ThisE, ParenE, NotE, NegE, BinaryE, GetE, CallE, NewE, no_exprs, more_exprs};
 ghost use Rattle.syntax.specs.Trees.{BlockS, LocalS, SetVarS, SetFieldS, DoS, IfS, IfElseS, WhileS, SyncS, ReturnS, PrintS, StartS, no_stmts, more_stmts, FieldM, CtorM, MethodM};
-ghost use Rattle.front_examples.specs.Written.{x_name, x, seven, param, field_tree, field, method_tree, this_lock, lock_of, one_expr, one_stmt, class_tree, class_below};
+ghost use Rattle.front_examples.specs.Written.{x_name, x, seven_tree, param, field_tree, field, method_tree, this_lock, lock_tree, one_expr, one_stmt, class_tree, class_below};
 ghost use Rattle.front_examples.specs.Spelled.{x_token, seven_token, f, f_token, sum, empty, empty_token, full_method};
 
 /// Expressions without parts, and those with one.
@@ -31,7 +31,7 @@ pub fn how_expressions_are_spelled()
     ensures no_field_of_a_sum { (ts : List Token) → Spells (GetE sum f) ts → ⊥ }
     ensures no_field_of_a_negated_one { (ts : List Token) → Spells (GetE (NegE x 8) f) ts → ⊥ }
     ensures call { Spells (CallE x f no_exprs) (x_token ∷ token T.Dot 10 ∷ f_token ∷ token T.OpenParen 12 ∷ token T.CloseParen 13 ∷ []) }
-    ensures call_with_two { Spells (CallE x f (more_exprs x (one_expr seven)))
+    ensures call_with_two { Spells (CallE x f (more_exprs x (one_expr seven_tree)))
         (x_token ∷ token T.Dot 10 ∷ f_token ∷ token T.OpenParen 12 ∷ x_token ∷ token T.Comma 14 ∷ seven_token ∷ token T.CloseParen 16 ∷ []) }
     ensures no_call_of_a_sum { (ts : List Token) → Spells (CallE sum f no_exprs) ts → ⊥ }
     ensures new_object { Spells (NewE f (one_expr x) 3) (token T.New 3 ∷ f_token ∷ token T.OpenParen 12 ∷ x_token ∷ token T.CloseParen 13 ∷ []) }
@@ -39,9 +39,9 @@ pub fn how_expressions_are_spelled()
 
 /// Operators associate to the left, and a looser one isn't part of a tighter one.
 pub fn how_operations_are_spelled()
-    ensures to_the_left { Spells (BinaryE O.Sub (BinaryE O.Sub x x 10) seven 12) (x_token ∷ token T.Minus 10 ∷ x_token ∷ token T.Minus 12 ∷ seven_token ∷ []) }
-    ensures not_to_the_right { (ts : List Token) → Spells (BinaryE O.Sub x (BinaryE O.Sub x seven 12) 10) ts → ⊥ }
-    ensures tighter_on_the_right { Spells (BinaryE O.Add x (BinaryE O.Mul x seven 12) 10) (x_token ∷ token T.Plus 10 ∷ x_token ∷ token T.Star 12 ∷ seven_token ∷ []) }
+    ensures to_the_left { Spells (BinaryE O.Sub (BinaryE O.Sub x x 10) seven_tree 12) (x_token ∷ token T.Minus 10 ∷ x_token ∷ token T.Minus 12 ∷ seven_token ∷ []) }
+    ensures not_to_the_right { (ts : List Token) → Spells (BinaryE O.Sub x (BinaryE O.Sub x seven_tree 12) 10) ts → ⊥ }
+    ensures tighter_on_the_right { Spells (BinaryE O.Add x (BinaryE O.Mul x seven_tree 12) 10) (x_token ∷ token T.Plus 10 ∷ x_token ∷ token T.Star 12 ∷ seven_token ∷ []) }
     ensures looser_on_the_left { (ts : List Token) → Spells (BinaryE O.Mul sum x 12) ts → ⊥ }
     ensures looser_on_the_right { (ts : List Token) → Spells (BinaryE O.Mul x sum 12) ts → ⊥ }
     ensures all_levels { Spells (BinaryE O.Or x (BinaryE O.And x (BinaryE O.Eq x (BinaryE O.Lt x (BinaryE O.Add x (BinaryE O.Rem x (NotE x 6) 5) 4) 3) 2) 1) 0)
@@ -51,27 +51,27 @@ pub fn how_operations_are_spelled()
 /// Locks, and statements of each kind.
 pub fn how_statements_are_spelled()
     ensures this { SpellsLock this_lock (token T.This 5 ∷ []) }
-    ensures lock { SpellsLock (lock_of (Some x_name) (f ∷ f ∷ []) 9) (x_token ∷ token T.Dot 10 ∷ f_token ∷ token T.Dot 12 ∷ f_token ∷ []) }
+    ensures lock { SpellsLock (lock_tree (Some x_name) (f ∷ f ∷ []) 9) (x_token ∷ token T.Dot 10 ∷ f_token ∷ token T.Dot 12 ∷ f_token ∷ []) }
     ensures empty { SpellsStmt empty (empty_token ∷ []) }
     ensures block { SpellsStmt (BlockS (more_stmts empty (one_stmt empty)) 3) (token T.OpenBrace 3 ∷ empty_token ∷ empty_token ∷ token T.CloseBrace 9 ∷ []) }
-    ensures local { SpellsStmt (LocalS false Y.Int f seven 3) (token T.Int 3 ∷ f_token ∷ token T.Assign 12 ∷ seven_token ∷ token T.Semicolon 14 ∷ []) }
-    ensures final_local { SpellsStmt (LocalS true (Y.Class x_name) f seven 3) (token T.Final 3 ∷ x_token ∷ f_token ∷ token T.Assign 12 ∷ seven_token ∷ token T.Semicolon 14 ∷ []) }
-    ensures truth_local { SpellsStmt (LocalS false Y.Boolean f seven 3) (token T.Boolean 3 ∷ f_token ∷ token T.Assign 12 ∷ seven_token ∷ token T.Semicolon 14 ∷ []) }
-    ensures local_elsewhere { SpellsStmt (LocalS false Y.Int f seven 4) (token T.Int 3 ∷ f_token ∷ token T.Assign 12 ∷ seven_token ∷ token T.Semicolon 14 ∷ []) → ⊥ }
-    ensures assigned { SpellsStmt (SetVarS x_name seven 10) (x_token ∷ token T.Assign 10 ∷ seven_token ∷ token T.Semicolon 14 ∷ []) }
-    ensures written { SpellsStmt (SetFieldS x f seven 12) (x_token ∷ token T.Dot 10 ∷ f_token ∷ token T.Assign 12 ∷ seven_token ∷ token T.Semicolon 14 ∷ []) }
-    ensures no_written_field_of_a_sum { (ts : List Token) → SpellsStmt (SetFieldS sum f seven 12) ts → ⊥ }
+    ensures local { SpellsStmt (LocalS false Y.Int f seven_tree 3) (token T.Int 3 ∷ f_token ∷ token T.Assign 12 ∷ seven_token ∷ token T.Semicolon 14 ∷ []) }
+    ensures final_local { SpellsStmt (LocalS true (Y.Class x_name) f seven_tree 3) (token T.Final 3 ∷ x_token ∷ f_token ∷ token T.Assign 12 ∷ seven_token ∷ token T.Semicolon 14 ∷ []) }
+    ensures truth_local { SpellsStmt (LocalS false Y.Boolean f seven_tree 3) (token T.Boolean 3 ∷ f_token ∷ token T.Assign 12 ∷ seven_token ∷ token T.Semicolon 14 ∷ []) }
+    ensures local_elsewhere { SpellsStmt (LocalS false Y.Int f seven_tree 4) (token T.Int 3 ∷ f_token ∷ token T.Assign 12 ∷ seven_token ∷ token T.Semicolon 14 ∷ []) → ⊥ }
+    ensures assigned { SpellsStmt (SetVarS x_name seven_tree 10) (x_token ∷ token T.Assign 10 ∷ seven_token ∷ token T.Semicolon 14 ∷ []) }
+    ensures written { SpellsStmt (SetFieldS x f seven_tree 12) (x_token ∷ token T.Dot 10 ∷ f_token ∷ token T.Assign 12 ∷ seven_token ∷ token T.Semicolon 14 ∷ []) }
+    ensures no_written_field_of_a_sum { (ts : List Token) → SpellsStmt (SetFieldS sum f seven_tree 12) ts → ⊥ }
     ensures done { SpellsStmt (DoS (CallE x f no_exprs) 9) (x_token ∷ token T.Dot 10 ∷ f_token ∷ token T.OpenParen 12 ∷ token T.CloseParen 13 ∷ token T.Semicolon 14 ∷ []) }
     ensures no_expression_alone { (ts : List Token) → SpellsStmt (DoS x 9) ts → ⊥ }
     ensures branch { SpellsStmt (IfS x empty 3) (token T.If 3 ∷ token T.OpenParen 5 ∷ x_token ∷ token T.CloseParen 10 ∷ empty_token ∷ []) }
-    ensures no_local_in_a_branch { (ts : List Token) → SpellsStmt (IfS x (LocalS false Y.Int f seven 3) 3) ts → ⊥ }
+    ensures no_local_in_a_branch { (ts : List Token) → SpellsStmt (IfS x (LocalS false Y.Int f seven_tree 3) 3) ts → ⊥ }
     ensures branches { SpellsStmt (IfElseS x empty empty 3) (token T.If 3 ∷ token T.OpenParen 5 ∷ x_token ∷ token T.CloseParen 10 ∷ empty_token ∷ token T.Else 13 ∷ empty_token ∷ []) }
     ensures nearest_if { SpellsStmt (IfS x (IfElseS x empty empty 12) 3)
         (token T.If 3 ∷ token T.OpenParen 5 ∷ x_token ∷ token T.CloseParen 10 ∷ token T.If 12 ∷ token T.OpenParen 13 ∷ x_token ∷ token T.CloseParen 14 ∷ empty_token ∷ token T.Else 15 ∷ empty_token ∷ []) }
     ensures no_further_if { (ts : List Token) → SpellsStmt (IfElseS x (IfS x empty 12) empty 3) ts → ⊥ }
-    ensures no_local_in_branches { (ts : List Token) → SpellsStmt (IfElseS x empty (LocalS false Y.Int f seven 3) 3) ts → ⊥ }
+    ensures no_local_in_branches { (ts : List Token) → SpellsStmt (IfElseS x empty (LocalS false Y.Int f seven_tree 3) 3) ts → ⊥ }
     ensures repeated { SpellsStmt (WhileS x empty 3) (token T.While 3 ∷ token T.OpenParen 5 ∷ x_token ∷ token T.CloseParen 10 ∷ empty_token ∷ []) }
-    ensures no_repeated_local { (ts : List Token) → SpellsStmt (WhileS x (LocalS false Y.Int f seven 3) 3) ts → ⊥ }
+    ensures no_repeated_local { (ts : List Token) → SpellsStmt (WhileS x (LocalS false Y.Int f seven_tree 3) 3) ts → ⊥ }
     ensures locked { SpellsStmt (SyncS this_lock (one_stmt empty) 3)
         (token T.Synchronized 3 ∷ token T.OpenParen 4 ∷ token T.This 5 ∷ token T.CloseParen 6 ∷ token T.OpenBrace 7 ∷ empty_token ∷ token T.CloseBrace 9 ∷ []) }
     ensures returned { SpellsStmt (ReturnS None 3) (token T.Return 3 ∷ token T.Semicolon 9 ∷ []) }

@@ -8,10 +8,10 @@ ghost use Rattle.typing.specs.declared.fault.TypeFault.TheVariants.{UnknownName,
 ghost use Rattle.typing.specs.Completion.{completes, completes_each, locals_in, locals_in_each};
 ghost use Rattle.typing.specs.Faults.{type_fault_offset, type_fault_rank};
 ghost use Rattle.typing.specs.Stmts.{stmt_core, stmt_faults, block_faults, counts_runnable, return_faults, declared_type, scope_after};
-ghost use Rattle.front_examples.specs.Written.{name, class_type_name, x, variable_at, this_lock, lock_of, one_expr, one_stmt};
+ghost use Rattle.front_examples.specs.Written.{name, class_type_name, x, variable_at, this_lock, lock_tree, one_expr, one_stmt};
 ghost use Rattle.front_examples.specs.Shop.{shop_table, in_scope};
 ghost use Rattle.front_examples.specs.Knots.{core_path};
-ghost use Rattle.front_examples.specs.Typing.{stmt_at, stmt_faults_at, block_at, block_faults_at, var_n, var_b, var_r, var_i, n_core, b_core, r_core, call_tree, new_of, local_y, y_at, sold, sold_core, twin_left, twin_left_core, block_y, block_y_at};
+ghost use Rattle.front_examples.specs.Typing.{stmt_at, stmt_faults_at, block_at, block_faults_at, var_n, var_b, var_r, var_i, n_core, b_core, r_core, method_call_tree, new_of, local_y, y_at, sold, sold_core, twin_left, twin_left_core, block_y, block_y_at};
 ghost use Rattle.front_examples.specs.Whole.{jobs_table};
 
 /// A local has the next slot, and a value that fits its type; it is one of at most 64, and has a name that isn't in scope.
@@ -20,7 +20,7 @@ pub fn what_locals_are()
     ensures plain_one { stmt_at None (LocalS false Y.Boolean (name (codes "y") 5) (var_b 8) 51) ≡ Some (core.LocalS 8 false T.Boolean b_core) }
     ensures of_a_class_above { stmt_at None (LocalS false (class_type_name (codes "Item") 2) (name (codes "y") 5) (var_r 8) 51) ≡ Some (core.LocalS 8 false (T.Class 0) r_core) }
     ensures of_a_class_below { stmt_faults_at None (LocalS false (class_type_name (codes "Rare") 2) (name (codes "y") 5) (var_i 8) 51) ≡ NoRule 5 ∷ [] }
-    ensures void_value { stmt_faults_at None (LocalS false Y.Int (name (codes "y") 5) (call_tree (var_r 8) (codes "log") no_exprs) 51) ≡ NoRule 5 ∷ [] }
+    ensures void_value { stmt_faults_at None (LocalS false Y.Int (name (codes "y") 5) (method_call_tree (var_r 8) (codes "log") no_exprs) 51) ≡ NoRule 5 ∷ [] }
     ensures unknown_type { stmt_faults_at None (LocalS false (class_type_name (codes "X") 2) (name (codes "y") 5) (var_r 8) 51) ≡ UnknownName 2 ∷ [] }
     ensures unknown_value { stmt_faults_at None (LocalS false Y.Int (name (codes "y") 5) x 51) ≡ UnknownName 9 ∷ [] }
     ensures both_unknown { stmt_faults_at None (LocalS false (class_type_name (codes "X") 2) (name (codes "y") 5) x 51) ≡ UnknownName 2 ∷ UnknownName 9 ∷ [] }
@@ -56,11 +56,11 @@ pub fn what_is_assigned()
 pub fn what_statements_want()
     ensures empty { stmt_at None (EmptyS 51) ≡ Some core.EmptyS }
     ensures empty_faults { stmt_faults_at None (EmptyS 51) ≡ [] }
-    ensures dropped { stmt_at None (DoS (call_tree (var_r 3) (codes "take") (one_expr (var_n 7))) 3) ≡ Some (core.DoS (core.CallE r_core 2 (core.and_expr n_core core.no_exprs)) true) }
-    ensures void { stmt_at None (DoS (call_tree (var_r 3) (codes "log") no_exprs) 3) ≡ Some (core.DoS (core.CallE r_core 1 core.no_exprs) false) }
+    ensures dropped { stmt_at None (DoS (method_call_tree (var_r 3) (codes "take") (one_expr (var_n 7))) 3) ≡ Some (core.DoS (core.CallE r_core 2 (core.and_expr n_core core.no_exprs)) true) }
+    ensures void { stmt_at None (DoS (method_call_tree (var_r 3) (codes "log") no_exprs) 3) ≡ Some (core.DoS (core.CallE r_core 1 core.no_exprs) false) }
     ensures new_object { stmt_at None (DoS (new_of (codes "Item") (one_expr (var_n 7))) 3) ≡ Some (core.DoS (core.NewE 0 (core.and_expr n_core core.no_exprs)) true) }
     ensures no_call { stmt_faults_at None (DoS (var_n 3) 3) ≡ NoRule 3 ∷ [] }
-    ensures unknown_call { stmt_faults_at None (DoS (call_tree x (codes "log") no_exprs) 9) ≡ UnknownName 9 ∷ [] }
+    ensures unknown_call { stmt_faults_at None (DoS (method_call_tree x (codes "log") no_exprs) 9) ≡ UnknownName 9 ∷ [] }
     ensures branch { stmt_at None (IfS (var_b 3) (PrintS (var_n 6) 5) 51) ≡ Some (core.IfS b_core (core.PrintS n_core) core.EmptyS) }
     ensures branches { stmt_at None (IfElseS (var_b 3) (PrintS (var_n 6) 5) (EmptyS 8) 51) ≡ Some (core.IfS b_core (core.PrintS n_core) core.EmptyS) }
     ensures other_branches { stmt_at None (IfElseS (var_b 3) (EmptyS 5) (PrintS (var_n 9) 8) 51) ≡ Some (core.IfS b_core core.EmptyS (core.PrintS n_core)) }
@@ -73,9 +73,9 @@ pub fn what_statements_want()
     ensures repeated { stmt_at None (WhileS (var_b 3) (PrintS (var_n 6) 5) 51) ≡ Some (core.WhileS b_core (core.PrintS n_core)) }
     ensures no_test { stmt_faults_at None (WhileS (var_n 3) (PrintS (var_b 6) 5) 51) ≡ NoRule 51 ∷ NoRule 5 ∷ [] }
     ensures unknown_test { stmt_faults_at None (WhileS x (EmptyS 5) 51) ≡ UnknownName 9 ∷ [] }
-    ensures locked { stmt_at None (SyncS (lock_of (Some (name (codes "r") 3)) [] 3) (one_stmt (PrintS (var_n 6) 5)) 51) ≡
+    ensures locked { stmt_at None (SyncS (lock_tree (Some (name (codes "r") 3)) [] 3) (one_stmt (PrintS (var_n 6) 5)) 51) ≡
         Some (core.SyncS (core_path 3 []) (core.BlockS (core.and_stmt (core.PrintS n_core) core.no_stmts))) }
-    ensures no_lock { stmt_faults_at None (SyncS (lock_of (Some (name (codes "i") 3)) [] 3) (one_stmt (PrintS (var_b 6) 5)) 51) ≡ NotALock 3 ∷ NoRule 5 ∷ [] }
+    ensures no_lock { stmt_faults_at None (SyncS (lock_tree (Some (name (codes "i") 3)) [] 3) (one_stmt (PrintS (var_b 6) 5)) 51) ≡ NotALock 3 ∷ NoRule 5 ∷ [] }
     ensures printed { stmt_at None (PrintS (var_n 3) 51) ≡ Some (core.PrintS n_core) }
     ensures printed_truth { stmt_faults_at None (PrintS (var_b 3) 51) ≡ NoRule 51 ∷ [] }
     ensures printed_nothing { stmt_faults_at None (PrintS x 51) ≡ UnknownName 9 ∷ [] }
@@ -97,7 +97,7 @@ pub fn what_this_class_has()
     ensures field_fault { stmt_faults_at None (SetFieldS (ThisE 13) (name (codes "sold") 5) twin_left 51) ≡ NoRule 51 ∷ [] }
     ensures final_fault { stmt_faults_at None (SetFieldS (ThisE 13) (name (codes "twin") 5) sold 51) ≡ FinalAssigned 5 ∷ [] }
     ensures receiver_and_value { stmt_faults_at None (SetFieldS sold (name (codes "left") 5) (NotE twin_left 12) 51) ≡ NoRule 5 ∷ NoRule 12 ∷ [] }
-    ensures done { stmt_at None (DoS (call_tree (ThisE 13) (codes "take") (one_expr twin_left)) 51) ≡ Some (core.DoS (core.CallE core.ThisE 2 (core.and_expr twin_left_core core.no_exprs)) true) }
+    ensures done { stmt_at None (DoS (method_call_tree (ThisE 13) (codes "take") (one_expr twin_left)) 51) ≡ Some (core.DoS (core.CallE core.ThisE 2 (core.and_expr twin_left_core core.no_exprs)) true) }
     ensures done_fault { stmt_faults_at None (DoS sold 51) ≡ NoRule 51 ∷ [] }
     ensures condition { stmt_at None (IfS sold block_y 51) ≡ Some (core.IfS sold_core (block_y_at 8) core.EmptyS) }
     ensures condition_fault { stmt_faults_at None (IfS twin_left block_y 51) ≡ NoRule 51 ∷ [] }
@@ -105,8 +105,8 @@ pub fn what_this_class_has()
     ensures conditions_fault { stmt_faults_at None (IfElseS twin_left block_y (EmptyS 52) 51) ≡ NoRule 51 ∷ [] }
     ensures test { stmt_at None (WhileS sold block_y 51) ≡ Some (core.WhileS sold_core (block_y_at 8)) }
     ensures test_fault { stmt_faults_at None (WhileS twin_left block_y 51) ≡ NoRule 51 ∷ [] }
-    ensures lock { stmt_at None (SyncS (lock_of None (name (codes "twin") 14 ∷ []) 13) (one_stmt local_y) 51) ≡ Some (core.SyncS (core_path 0 (2 ∷ [])) (block_y_at 8)) }
-    ensures lock_fault { stmt_faults_at None (SyncS (lock_of None (name (codes "sold") 14 ∷ []) 13) (one_stmt local_y) 51) ≡ NotALock 13 ∷ [] }
+    ensures lock { stmt_at None (SyncS (lock_tree None (name (codes "twin") 14 ∷ []) 13) (one_stmt local_y) 51) ≡ Some (core.SyncS (core_path 0 (2 ∷ [])) (block_y_at 8)) }
+    ensures lock_fault { stmt_faults_at None (SyncS (lock_tree None (name (codes "sold") 14 ∷ []) 13) (one_stmt local_y) 51) ≡ NotALock 13 ∷ [] }
     ensures returned { stmt_at (Some T.Boolean) (ReturnS (Some sold) 51) ≡ Some (core.ReturnS (Some sold_core)) }
     ensures returned_fault { stmt_faults_at (Some T.Int) (ReturnS (Some sold) 51) ≡ NoRule 51 ∷ [] }
     ensures printed { stmt_at None (PrintS twin_left 51) ≡ Some (core.PrintS twin_left_core) }

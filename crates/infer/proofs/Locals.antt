@@ -13,7 +13,7 @@ use Rattle.rules.specs.Mentions.{Mention, Names, block_mentions}
 use Rattle.rules.specs.Near.{Mentions, Near, required, locked, guarded, called, overriding, named, MethodPaths, AreRelevant, rel_of, loc_of, rel_paths, loc_paths}
 use Rattle.rules.specs.Effect.{Assignment, after_local, after_stmt, block_effect}
 use Rattle.rules.proofs.NearOnly.{Covers, block_same, rel_is}
-use Rattle.infer.specs.Names.{local_names, near_of, left_by}
+use Rattle.infer.specs.Names.{names_from_slot, near_of, left_by}
 
 named_step : (b : Bool) (pair : PathData × Option PathData) (rest : List (PathData × Option PathData)) (q : PathData) (c t h : Bool) → path_eq pair.0 q ≡ c → is_named rest q ≡ (t && h) → (c ≡ true → b ≡ t) → is_named (if b then pair ∷ rest else rest) q ≡ (t && (c || h))
 named_step true pair rest q true true h is ih same = ap (λ c. c || is_named rest q) is
@@ -34,22 +34,22 @@ partner_step H false pair rest q true false h w is ih same value = ih
 partner_step H false pair rest q false t h w is ih same value = ih
 
 module _ (H : Held) (x : ℕ) (o : Option PathData) (q : PathData) where
-  names_of : (near : List PathData) → is_named (local_names x o near) q ≡ (q.root == x && has_path near q)
+  names_of : (near : List PathData) → is_named (names_from_slot x o near) q ≡ (q.root == x && has_path near q)
   names_of [] = nothing (q.root == x)
     where
       nothing : (t : Bool) → false ≡ (t && false)
       nothing true = refl
       nothing false = refl
-  names_of (p ∷ ps) = named_step (p.root == x) (p, extended_some o p.fields) (local_names x o ps) q (path_eq p q) (q.root == x) (has_path ps q) refl (names_of ps)
+  names_of (p ∷ ps) = named_step (p.root == x) (p, extended_some o p.fields) (names_from_slot x o ps) q (path_eq p q) (q.root == x) (has_path ps q) refl (names_of ps)
       (λ same. ap (λ r. r.root == x) (eq_is p q same))
 
-  partners_are : (near : List PathData) → partner_held (local_names x o near) H q ≡ ((q.root == x && has_path near q) && holds_at (extended_some o q.fields) H)
+  partners_are : (near : List PathData) → partner_held (names_from_slot x o near) H q ≡ ((q.root == x && has_path near q) && holds_at (extended_some o q.fields) H)
   partners_are [] = nothing (q.root == x)
     where
       nothing : (t : Bool) → false ≡ ((t && false) && holds_at (extended_some o q.fields) H)
       nothing true = refl
       nothing false = refl
-  partners_are (p ∷ ps) = partner_step H (p.root == x) (p, extended_some o p.fields) (local_names x o ps) q (path_eq p q) (q.root == x) (has_path ps q) _ refl (partners_are ps)
+  partners_are (p ∷ ps) = partner_step H (p.root == x) (p, extended_some o p.fields) (names_from_slot x o ps) q (path_eq p q) (q.root == x) (has_path ps q) _ refl (partners_are ps)
       (λ same. ap (λ r. r.root == x) (eq_is p q same))
       (λ same. ap (λ r. holds_at (extended_some o r.fields) H) (eq_is p q same))
 
@@ -61,18 +61,18 @@ after_is : (H : Held) (x : ℕ) (o : Option PathData) (q : PathData) → (if q.r
 after_is H x None q = refl
 after_is H x (Some p) q = refl
 
-after_renamed : (near : List PathData) (H : Held) (x : ℕ) (o : Option PathData) (q : PathData) → has_path near q ≡ true → renamed (local_names x o near) H q ≡ after_local H x o q
+after_renamed : (near : List PathData) (H : Held) (x : ℕ) (o : Option PathData) (q : PathData) → has_path near q ≡ true → renamed (names_from_slot x o near) H q ≡ after_local H x o q
 after_renamed near H x o q has =
     (λ i. if names_of H x o q near i then partners_are H x o q near i else H q)
     ∙ ap (λ h. if q.root == x && h then (q.root == x && h) && holds_at (extended_some o q.fields) H else H q) has
     ∙ last (q.root == x) _ _
     ∙ after_is H x o q
 
-pub local_names_append : (x : ℕ) (o : Option PathData) (ps qs : List PathData) → local_names x o ps ++ local_names x o qs ≡ local_names x o (ps ++ qs)
+pub local_names_append : (x : ℕ) (o : Option PathData) (ps qs : List PathData) → names_from_slot x o ps ++ names_from_slot x o qs ≡ names_from_slot x o (ps ++ qs)
 local_names_append x o [] qs = refl
 local_names_append x o (p ∷ ps) qs = step (p.root == x) ∙ ap (λ rest. if p.root == x then (p, extended_some o p.fields) ∷ rest else rest) (local_names_append x o ps qs)
   where
-    step : (b : Bool) → (if b then (p, extended_some o p.fields) ∷ local_names x o ps else local_names x o ps) ++ local_names x o qs ≡ (if b then (p, extended_some o p.fields) ∷ (local_names x o ps ++ local_names x o qs) else (local_names x o ps ++ local_names x o qs))
+    step : (b : Bool) → (if b then (p, extended_some o p.fields) ∷ names_from_slot x o ps else names_from_slot x o ps) ++ names_from_slot x o qs ≡ (if b then (p, extended_some o p.fields) ∷ (names_from_slot x o ps ++ names_from_slot x o qs) else (names_from_slot x o ps ++ names_from_slot x o qs))
     step true = refl
     step false = refl
 
@@ -142,7 +142,7 @@ module _ (P : Program) (sets : List MethodPaths) (relevant : AreRelevant P sets)
   rest_same A m s ss H part = block_same P (rel_of sets) A (Near P m) ss _ _ (covered A m _ part) (left_is m s H)
 
 -- the renaming that the code makes leaves the set of the definitions
-pub left_renamed : (P : Program) (sets : List MethodPaths) (m : ℕ) (s : Stmt) (x : ℕ) (ty : CoreType) (e : Expr) (o : Option PathData) (pairs : List (PathData × Option PathData)) (H : Held) → s ≡ LocalS x true ty e → o ≡ path_of P e → pairs ≡ local_names x o (rel_of sets m) ++ local_names x o (loc_of sets m) → renamed pairs H ≡ left_by P (near_of sets m) s H
+pub left_renamed : (P : Program) (sets : List MethodPaths) (m : ℕ) (s : Stmt) (x : ℕ) (ty : CoreType) (e : Expr) (o : Option PathData) (pairs : List (PathData × Option PathData)) (H : Held) → s ≡ LocalS x true ty e → o ≡ path_of P e → pairs ≡ names_from_slot x o (rel_of sets m) ++ names_from_slot x o (loc_of sets m) → renamed pairs H ≡ left_by P (near_of sets m) s H
 left_renamed P sets m s x ty e o pairs H s_is o_is pairs_is =
-    ap (λ ps. renamed ps H) (pairs_is ∙ local_names_append x o (rel_of sets m) (loc_of sets m) ∙ ap (λ p. local_names x p (near_of sets m)) o_is)
+    ap (λ ps. renamed ps H) (pairs_is ∙ local_names_append x o (rel_of sets m) (loc_of sets m) ∙ ap (λ p. names_from_slot x p (near_of sets m)) o_is)
     ∙ ap (λ t. left_by P (near_of sets m) t H) (sym s_is)

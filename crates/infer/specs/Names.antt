@@ -16,10 +16,10 @@ abbrev pub held_partners : List (PathData × Option PathData) → Held → List 
 held_partners pairs H = map (λ pair. holds_at pair.1 H) pairs
 
 -- each path rooted at a slot, with what it is from the path of the slot's value
-abbrev pub local_names : ℕ → Option PathData → List PathData → List (PathData × Option PathData)
-local_names x value [] = []
-local_names x value (q ∷ qs) =
-    if q.root == x then (q, extended_some value q.fields) ∷ local_names x value qs else local_names x value qs
+abbrev pub names_from_slot : ℕ → Option PathData → List PathData → List (PathData × Option PathData)
+names_from_slot x value [] = []
+names_from_slot x value (q ∷ qs) =
+    if q.root == x then (q, extended_some value q.fields) ∷ names_from_slot x value qs else names_from_slot x value qs
 
 -- all paths near a method
 abbrev pub near_of : List MethodPaths → ℕ → List PathData
@@ -27,5 +27,5 @@ near_of sets m = rel_of sets m ++ loc_of sets m
 
 -- the set after a statement, as a renaming of paths near the method tells it
 abbrev pub left_by : Program → List PathData → Stmt → Held → Held
-left_by P near (LocalS x true ty e) H = renamed (local_names x (path_of P e) near) H
+left_by P near (LocalS x true ty e) H = renamed (names_from_slot x (path_of P e) near) H
 left_by P near _ H = H

@@ -6,7 +6,7 @@ ghost use Rattle.algebra.specs.HeldPaths.{Held};
 ghost use Rattle.algebra.specs.Values.{Keeps};
 ghost use Rattle.core_program.specs.Views.{stmt_of};
 ghost use Rattle.infer.specs.Bodies.{program_at, near_at};
-ghost use Rattle.infer.specs.Names.{local_names, left_by};
+ghost use Rattle.infer.specs.Names.{names_from_slot, left_by};
 
 use crate::walk::Walk;
 use algebra::Algebra;
@@ -51,7 +51,7 @@ fn add_names(
     value: Option<&Path>,
     paths: &[Path],
 ) -> Result<(), NoMemory>
-    ensures { OnOk result (pairs.new.items ≡ pairs.old.items ++ local_names slot (option_copied value.entry) paths.now) }
+    ensures { OnOk result (pairs.new.items ≡ pairs.old.items ++ names_from_slot slot (option_copied value.entry) paths.now) }
 {
     for path in paths {
         if path.root == slot {

@@ -13,7 +13,7 @@ use Rattle.level_check.specs.Told.{ToldLevel, Calls, Wrong, told_level_of}
 use Rattle.level_check.specs.declared.link.Link.{Link}
 use Rattle.level_check.specs.Greatest.{links_at}
 use Rattle.level_check.specs.declared.cells.Cell.{Cell}
-use Rattle.level_check.specs.Cells.{set_of, Queue, IsEven, IsAt, HasCell, HasLevel, IsAdded, run_in, runs_of, AreBegun, AreCellLinks, AreAdded, IsNoted, Telling, AreFollowed, IsCalled, called_first, called_next, AreCalledUnder}
+use Rattle.level_check.specs.Cells.{set_of, Queue, IsEven, IsAt, HasCell, HasLevel, IsAdded, run_in, runs_of, AreFirstCells, AreCellLinks, AreAdded, IsLinked, Telling, AreFollowed, IsCalled, called_first, called_next, AreCalledUnder}
 use Rattle.level_check.proofs.Tells.{nothing_there, first_there, told_method, told_set, told_level, told_is_call}
 
 -- Both lists of a queue.
@@ -70,14 +70,14 @@ longer old m H level at new added = elim added.more as (λ _. Longer old m H lev
 
 -- Cells where threads begin.
 
-begun_none : AreBegun [] (record { cells = []; levels = [] })
+begun_none : AreFirstCells [] (record { cells = []; levels = [] })
 begun_none = record {
   even = refl;
   each = λ m has. absurd (nothing_there m has);
   only = λ c u cell has. absurd (none-some cell has.there);
 }
 
-begun_more : (ms : List ℕ) (old new : Queue) (m at : ℕ) → AreBegun ms old → IsAdded old m (λ p. false) 0 at new → AreBegun (ms ++ m ∷ []) new
+begun_more : (ms : List ℕ) (old new : Queue) (m at : ℕ) → AreFirstCells ms old → IsAdded old m (λ p. false) 0 at new → AreFirstCells (ms ++ m ∷ []) new
 begun_more ms old new m at begun added =
     let l = longer old m (λ p. false) 0 at new added in
     record {
@@ -254,28 +254,28 @@ runs_to (x ∷ cs) m (suc c) class is run = Contains-append_right (run_in x.run)
 
 -- Steps of loops.
 
-pub begun_start : (ms : List ℕ) (q : Queue) → q ≡ record { cells = []; levels = [] } → AreBegun (take 0 ms) q
-begun_start ms q is = subst (λ z. AreBegun [] z) (sym is) begun_none
+pub begun_start : (ms : List ℕ) (q : Queue) → q ≡ record { cells = []; levels = [] } → AreFirstCells (take 0 ms) q
+begun_start ms q is = subst (λ z. AreFirstCells [] z) (sym is) begun_none
 
-pub begun_step : (ms : List ℕ) (i m : ℕ) (old new : Queue) (cell : Cell) (level at : ℕ) → i < length ms → m ≡ get_or ms i m → cell.method ≡ m → cell.held.items ≡ [] → level ≡ 0 → AreBegun (take i ms) old → IsAdded old cell.method (set_of cell) level at new
-    → AreBegun (take (i + 1) ms) new
+pub begun_step : (ms : List ℕ) (i m : ℕ) (old new : Queue) (cell : Cell) (level at : ℕ) → i < length ms → m ≡ get_or ms i m → cell.method ≡ m → cell.held.items ≡ [] → level ≡ 0 → AreFirstCells (take i ms) old → IsAdded old cell.method (set_of cell) level at new
+    → AreFirstCells (take (i + 1) ms) new
 begun_step ms i m old new cell level at below is method held zero_level begun added =
-    subst (λ ns. AreBegun ns new) (sym (next_take ms i m below is)) (begun_more (take i ms) old new m at begun
+    subst (λ ns. AreFirstCells ns new) (sym (next_take ms i m below is)) (begun_more (take i ms) old new m at begun
     (subst (λ n. IsAdded old n (λ p. false) 0 at new) method (subst (λ ps. IsAdded old cell.method (has_path ps) 0 at new) held (subst (λ n. IsAdded old cell.method (set_of cell) n at new) zero_level added))))
 
-pub begun_all : (ms : List ℕ) (i : ℕ) (q : Queue) → length ms ≤ i → AreBegun (take i ms) q → AreBegun ms q
-begun_all ms i q end begun = subst (λ xs. AreBegun xs q) (take_all i ms end) begun
+pub begun_all : (ms : List ℕ) (i : ℕ) (q : Queue) → length ms ≤ i → AreFirstCells (take i ms) q → AreFirstCells ms q
+begun_all ms i q end begun = subst (λ xs. AreFirstCells xs q) (take_all i ms end) begun
 
 -- one visit more of what was seen
 seen_next : (seen : List Seen) (i : ℕ) (s : Seen) → i < length seen → s ≡ get_or seen i s → map told_level_of (take (i + 1) seen) ≡ map told_level_of (take i seen) ++ told_level_of s ∷ []
 seen_next seen i s below is = ap (map told_level_of) (next_take seen i s below is) ∙ map-append told_level_of (take i seen) (s ∷ [])
 
 -- one visit more, with what it adds
-pub seen_step : (seen : List Seen) (i : ℕ) (s : Seen) (from : ℕ) (old now new : Queue) (links longer : List Link) → i < length seen → s ≡ get_or seen i s → AreAdded (map told_level_of (take i seen)) from old now links → IsNoted (told_level_of s) from now new links longer
+pub seen_step : (seen : List Seen) (i : ℕ) (s : Seen) (from : ℕ) (old now new : Queue) (links longer : List Link) → i < length seen → s ≡ get_or seen i s → AreAdded (map told_level_of (take i seen)) from old now links → IsLinked (told_level_of s) from now new links longer
     → AreAdded (map told_level_of (take (i + 1) seen)) from old new longer
 seen_step seen i s from old now new links longer below is added step = subst (λ ts. AreAdded ts from old new longer) (sym (seen_next seen i s below is)) (by_told (told_level_of s) step)
   where
-    by_told : (t : ToldLevel) → IsNoted t from now new links longer → AreAdded (map told_level_of (take i seen) ++ t ∷ []) from old new longer
+    by_told : (t : ToldLevel) → IsLinked t from now new links longer → AreAdded (map told_level_of (take i seen) ++ t ∷ []) from old new longer
     by_told (Wrong p c u) (same, kept) = subst (λ ls. AreAdded (map told_level_of (take i seen) ++ Wrong p c u ∷ []) from old new ls) (sym kept) (subst (λ q. AreAdded (map told_level_of (take i seen) ++ Wrong p c u ∷ []) from old q links) (sym same)
         (added_wrong (map told_level_of (take i seen)) from old now links p c u added))
     by_told (Calls k K w) (link, more, level, one) = subst (λ ls. AreAdded (map told_level_of (take i seen) ++ Calls k K w ∷ []) from old new ls) (sym more) (added_call (map told_level_of (take i seen)) from old now new links k K w link.to link refl level added one)

@@ -20,7 +20,7 @@ use Rattle.level_check.specs.declared.bad.Bad.{Bad as BadOne}
 use Rattle.level_check.specs.declared.end.LevelEnd.{LevelEnd}
 use Rattle.level_check.specs.declared.end.LevelEnd.TheVariants as ends
 use Rattle.level_check.specs.Bodies.{body_told}
-use Rattle.level_check.specs.Cells.{set_of, Queue, IsAt, HasCell, HasLevel, runs_of, AreBegun, Telling, IsCalled, called_first, called_next, AreAllFollowed}
+use Rattle.level_check.specs.Cells.{set_of, Queue, IsAt, HasCell, HasLevel, runs_of, AreFirstCells, Telling, IsCalled, called_first, called_next, AreAllFollowed}
 use Rattle.level_check.specs.Bad.{firsts, all_bads}
 use Rattle.level_check.proofs.Shifts.{body_shifts}
 use Rattle.level_check.proofs.Tells.{nothing_there, first_there, told_call, call_told, bad_told, told_bad, told_body, Runs}
@@ -61,7 +61,7 @@ module _ (P : Program) (rel : ℕ → List PathData) (level : ℕ → ℕ) (over
       let low = (body_shifts u P rel level method H).down callee known later has in
       (low.0, low.1, subst (λ o. Contains (body_told P rel level (row_at over) o H 0) (Calls k (known k) low.0)) (sym is) (call_told (row_at over) (body_visits P rel level method H 0) callee known low.0 k low.2 (runs k callee run)))
 
-  module _ (start : Queue) (begun : AreBegun (P.main ∷ runs_of P.classes) start) where
+  module _ (start : Queue) (begun : AreFirstCells (P.main ∷ runs_of P.classes) start) where
     first_context : (c u : ℕ) (cell : Cell) → HasLevel start c cell u → Context P rel level cell.method (set_of cell) u
     first_context c u cell has =
         let r = begun.only c u cell has in
@@ -191,7 +191,7 @@ if_ok : {A E : Type 0} (F G : A → Type 0) (r : Result A E) → ((x : A) → F 
 if_ok F G (Ok x) each fact = each x fact
 if_ok F G (Err e) each fact = tt
 
-pub answered_by : {E : Type 0} (P : Program) (rel : ℕ → List PathData) (level : ℕ → ℕ) (over : List (List ℕ)) (exact : AreOverriders P over) (start : Queue) (begun : AreBegun (P.main ∷ runs_of P.classes) start) (q : Queue) (rows : List (List Link))
+pub answered_by : {E : Type 0} (P : Program) (rel : ℕ → List PathData) (level : ℕ → ℕ) (over : List (List ℕ)) (exact : AreOverriders P over) (start : Queue) (begun : AreFirstCells (P.main ∷ runs_of P.classes) start) (q : Queue) (rows : List (List Link))
     (followed : AreAllFollowed (tell P rel level over exact) start q rows) (x : List ℕ) (greatest : AreGreatest rows q.levels x) (read : List ℕ) → read ≡ x → (r : Result (Option BadOne) E)
     → IfOk r (λ o. o ≡ firsts None (all_bads (tell P rel level over exact) q.cells read)) → IfOk r (λ o. MatchOption o (IsOrdered P rel level) (λ b. IsFirstBad P rel level b.method b.class b.under))
 answered_by P rel level over exact start begun q rows followed x greatest read same r told =

@@ -18,7 +18,7 @@ use Rattle.level_check.specs.declared.reader.LevelsFault.{LevelsFault}
 use Rattle.level_check.specs.declared.reader.LevelsFault.TheVariants as faults
 use Rattle.level_check.specs.Texts.{LevelLine, level_line_text, level_lines_text, IsLevelLine}
 use Rattle.level_check.specs.Reading.{name_at, level_at}
-use Rattle.level_check.specs.Faults.{HasStood, IsNew, AreNew, HasLevel, AreLevelsTold, IsMissing, Differs, IsUnequal, IsFirstLevelsFault}
+use Rattle.level_check.specs.Faults.{HasStood, IsNew, AreNew, HasGivenLevel, AreLevelsTold, IsMissing, Differs, IsUnequal, IsFirstLevelsFault}
 use Rattle.level_check.specs.Kept.{is_at, level_on, differs, KeepsLevels, HasRead, IsRead, IsLevelsAnswer}
 use Rattle.level_check.proofs.Parts.{sound_name, sound_level}
 use Rattle.level_check.proofs.Fronts.{text_more, new_more}
@@ -44,20 +44,20 @@ none_kept t n levels count e = record {
     zeros c (inr more) = past (replicate n 0) c (let e = length-replicate {A = ℕ} n 0 in omega (arith, more, e))
 
 -- a class with a level has a line
-pub has_line : (t : TableData) (ls : List LevelLine) (c : ℕ) → 0 < level_on t ls c → HasLevel t ls c (level_on t ls c)
+pub has_line : (t : TableData) (ls : List LevelLine) (c : ℕ) → 0 < level_on t ls c → HasGivenLevel t ls c (level_on t ls c)
 has_line t [] c some = absurd (omega (arith, some))
 has_line t (x ∷ xs) c some = by (class_number t x.name) refl (λ more. has_line t xs c more) some
   where
     Later : Type 0
-    Later = 0 < level_on t xs c → HasLevel t xs c (level_on t xs c)
+    Later = 0 < level_on t xs c → HasGivenLevel t xs c (level_on t xs c)
 
-    head : (k : Bool) (o : Option ℕ) → is_at o c ≡ k → o ≡ class_number t x.name → Later → 0 < (if k then x.level else level_on t xs c) → HasLevel t (x ∷ xs) c (if k then x.level else level_on t xs c)
+    head : (k : Bool) (o : Option ℕ) → is_at o c ≡ k → o ≡ class_number t x.name → Later → 0 < (if k then x.level else level_on t xs c) → HasGivenLevel t (x ∷ xs) c (if k then x.level else level_on t xs c)
     head true None at e later some = absurd (let no : false ≡ true = at in cc)
     head true (Some d) at e later some = record { line = x; among = (0, omega arith, refl); named = sym e ∙ ap Some (eqb-true d c at); level_is = refl }
     head false o at e later some = let h = later some in record { line = h.line; among = contains_later x h.line xs h.among; named = h.named; level_is = h.level_is }
 
-    by : (o : Option ℕ) → o ≡ class_number t x.name → Later → 0 < level_on t (x ∷ xs) c → HasLevel t (x ∷ xs) c (level_on t (x ∷ xs) c)
-    by o e later some = subst (λ k. HasLevel t (x ∷ xs) c (if k then x.level else level_on t xs c)) (ap (λ p. is_at p c) e)
+    by : (o : Option ℕ) → o ≡ class_number t x.name → Later → 0 < level_on t (x ∷ xs) c → HasGivenLevel t (x ∷ xs) c (level_on t (x ∷ xs) c)
+    by o e later some = subst (λ k. HasGivenLevel t (x ∷ xs) c (if k then x.level else level_on t xs c)) (ap (λ p. is_at p c) e)
         (head (is_at o c) o refl e later (subst (λ k. 0 < (if k then x.level else level_on t xs c)) (ap (λ p. is_at p c) (sym e)) some))
 
 -- each level on lines is positive
@@ -193,7 +193,7 @@ all_told t bytes levels h each = record {
       let same : level_in levels c ≡ n = ap (λ o. unwrap_or o 0) e in
       let on : level_on t h.lines c ≡ n = sym (h.keeps.each c) ∙ same in
       let some = each c (slice_get_within levels c n e) in
-      subst (HasLevel t h.lines c) on (has_line t h.lines c (subst (λ z. 0 < z) (h.keeps.each c) some));
+      subst (HasGivenLevel t h.lines c) on (has_line t h.lines c (subst (λ z. 0 < z) (h.keeps.each c) some));
 }
 
 pub is_missing : (t : TableData) (bytes levels : List ℕ) (c : ℕ) → HasRead t bytes [] levels → c < length levels → level_in levels c ≡ 0 → ((d : ℕ) → d < c → 0 < level_in levels d) → IsMissing t bytes c

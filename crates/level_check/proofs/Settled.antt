@@ -10,7 +10,7 @@ use Rattle.fixpoint.specs.Assignments.{CellNumbers, IsAbove, AreAllMet}
 use Rattle.fixpoint.proofs.AssignmentLemmas.{length-above}
 use Rattle.level_check.specs.declared.link.Link.{Link}
 use Rattle.level_check.specs.Greatest.{links_at, ReachedUnder, over_link, AreGreatest}
-use Rattle.level_check.specs.Rises.{are_met, are_met_from, all_raised, raised_from, marks_of, numbers_of, is_met, leads_to}
+use Rattle.level_check.specs.Rises.{are_met, are_met_from, all_raised, raised_from, marks_of, numbers_of, are_links_met, leads_to}
 use Rattle.level_check.proofs.Raising.{all_length, all_cases, all_has, all_other, all_same, met_from, met_at, met_grows}
 
 pub numbers_marks : (x : List ℕ) → numbers_of (marks_of x) ≡ x
@@ -18,7 +18,7 @@ numbers_marks [] = refl
 numbers_marks (u ∷ us) = ap (λ k. u ∷ k) (numbers_marks us)
 
 -- whether a cell's links are met, from the levels themselves
-pub met_is : (rows : List (List Link)) (x : List ℕ) (c : ℕ) → is_met rows (marks_of x) c ≡ are_met_from x (slice_get x c) (links_at rows c)
+pub met_is : (rows : List (List Link)) (x : List ℕ) (c : ℕ) → are_links_met rows (marks_of x) c ≡ are_met_from x (slice_get x c) (links_at rows c)
 met_is rows x c = ap (λ y. are_met_from y (slice_get y c) (links_at rows c)) (numbers_marks x)
 
 -- an assignment above others, cell by cell
@@ -58,16 +58,16 @@ module _ (rows : List (List Link)) (x : List ℕ) (c : ℕ) (from : ℕ) (is : s
       subst (λ k. k ≤ v) (same_Some r.0 u (sym r.1 ∙ old)) r.2)
 
   -- what a closed assignment that lies above has at the target of a link
-  asked_under : (y : CellNumbers) → AreAllMet (is_met rows) y → IsAbove y (marks_of x) → (l : Link) (v : ℕ) → Contains (links_at rows c) l → slice_get (numbers_of y) l.to ≡ Some v → max from l.level ≤ v
+  asked_under : (y : CellNumbers) → AreAllMet (are_links_met rows) y → IsAbove y (marks_of x) → (l : Link) (v : ℕ) → Contains (links_at rows c) l → slice_get (numbers_of y) l.to ≡ Some v → max from l.level ≤ v
   asked_under y closed above l v has at =
       let own = above_at y x c from above is in
       let inside = slice_get_within x c from is in
       let count = length-above y (marks_of x) above ∙ length-map x (λ (u : ℕ). u ∷ []) in
-      let met : is_met rows y c ≡ true = closed c (subst (λ n. c < n) (sym count) inside) in
+      let met : are_links_met rows y c ≡ true = closed c (subst (λ n. c < n) (sym count) inside) in
       let there : are_met (numbers_of y) own.0 (links_at rows c) ≡ true = sym (ap (λ o. are_met_from (numbers_of y) o (links_at rows c)) own.1) ∙ met in
       le_trans {n = max from l.level} {m = max own.0 l.level} {k = v} (rises_less from own.0 l.level own.2) (met_at (numbers_of y) own.0 (links_at rows c) l v there has at)
 
-  all_under : (y : CellNumbers) → AreAllMet (is_met rows) y → IsAbove y (marks_of x) → IsAbove y (marks_of (all_raised x from (links_at rows c)))
+  all_under : (y : CellNumbers) → AreAllMet (are_links_met rows) y → IsAbove y (marks_of x) → IsAbove y (marks_of (all_raised x from (links_at rows c)))
   all_under y closed above = above_new y x (all_raised x from (links_at rows c)) above (all_length x from (links_at rows c)) (λ d u v new at.
       let r = all_cases x from (links_at rows c) d u new in
       elim r.3 as (λ _. u ≤ v) [
@@ -78,7 +78,7 @@ module _ (rows : List (List Link)) (x : List ℕ) (c : ℕ) (from : ℕ) (is : s
       ])
 
   -- the demands of cells to which no link leads
-  all_others : (other : ℕ) → leads_to (links_at rows c) other ≡ false → (other ≢ c → is_met rows (marks_of x) other ≡ true) → is_met rows (marks_of (all_raised x from (links_at rows c))) other ≡ true
+  all_others : (other : ℕ) → leads_to (links_at rows c) other ≡ false → (other ≢ c → are_links_met rows (marks_of x) other ≡ true) → are_links_met rows (marks_of (all_raised x from (links_at rows c))) other ≡ true
   all_others other away before = met_is rows new other ∙ ap (λ o. are_met_from new o (links_at rows other)) (all_other x from (links_at rows c) other away) ∙ by_cell (other == c) refl
     where
       new : List ℕ
@@ -109,8 +109,8 @@ module _ (rows : List (List Link)) (x : List ℕ) (c : ℕ) (from : ℕ) (is : s
 pub record Raised (rows : List (List Link)) (x : List ℕ) (c : ℕ) (new : List ℕ) : Type 0 where
   pub count : length new ≡ length x
   pub rises : IsAbove (marks_of new) (marks_of x)
-  pub under : (y : CellNumbers) → AreAllMet (is_met rows) y → IsAbove y (marks_of x) → IsAbove y (marks_of new)
-  pub others : (other : ℕ) → leads_to (links_at rows c) other ≡ false → (other ≢ c → is_met rows (marks_of x) other ≡ true) → is_met rows (marks_of new) other ≡ true
+  pub under : (y : CellNumbers) → AreAllMet (are_links_met rows) y → IsAbove y (marks_of x) → IsAbove y (marks_of new)
+  pub others : (other : ℕ) → leads_to (links_at rows c) other ≡ false → (other ≢ c → are_links_met rows (marks_of x) other ≡ true) → are_links_met rows (marks_of new) other ≡ true
   pub reached : (start : List ℕ) → ((d u : ℕ) → slice_get x d ≡ Some u → ReachedUnder rows start d u) → (d u : ℕ) → slice_get new d ≡ Some u → ReachedUnder rows start d u
 
 pub raised_is : (rows : List (List Link)) (x : List ℕ) (c : ℕ) → Raised rows x c (raised_from x (slice_get x c) (links_at rows c))
@@ -128,7 +128,7 @@ raised_is rows x c = by_level (slice_get x c) refl
       reached = λ start old d u at. old d u at;
     }
       where
-        by_cell : (other : ℕ) → (other ≢ c → is_met rows (marks_of x) other ≡ true) → (b : Bool) → (other == c) ≡ b → is_met rows (marks_of x) other ≡ true
+        by_cell : (other : ℕ) → (other ≢ c → are_links_met rows (marks_of x) other ≡ true) → (b : Bool) → (other == c) ≡ b → are_links_met rows (marks_of x) other ≡ true
         by_cell other before true k = met_is rows x other ∙ ap (λ o. are_met_from x o (links_at rows other)) (ap (slice_get x) (eqb-true other c k) ∙ e)
         by_cell other before false k = before (eqb-false other c k)
     by_level (Some from) e = record {
@@ -149,7 +149,7 @@ none_asks x None = refl
 none_asks x (Some from) = refl
 
 -- closed levels are greatest
-pub closed_greatest : (rows : List (List Link)) (start x : List ℕ) → AreAllMet (is_met rows) (marks_of x) → length x ≡ length start → ((c u : ℕ) → slice_get x c ≡ Some u → ReachedUnder rows start c u) → AreGreatest rows start x
+pub closed_greatest : (rows : List (List Link)) (start x : List ℕ) → AreAllMet (are_links_met rows) (marks_of x) → length x ≡ length start → ((c u : ℕ) → slice_get x c ≡ Some u → ReachedUnder rows start c u) → AreGreatest rows start x
 closed_greatest rows start x closed count reached = record {
   count = count;
   reached = reached;
@@ -159,7 +159,7 @@ closed_greatest rows start x closed count reached = record {
       met_at x u (links_at rows c) link v (sym (ap (λ o. are_met_from x o (links_at rows c)) own) ∙ met) has at;
 }
 
-pub settled : {E : Type 0} (r : Result Unit E) (rows : List (List Link)) (start x : List ℕ) → length x ≡ length start → ((c u : ℕ) → slice_get x c ≡ Some u → ReachedUnder rows start c u) → OnOk r (AreAllMet (is_met rows) (marks_of x)) → OnOk r (AreGreatest rows start x)
+pub settled : {E : Type 0} (r : Result Unit E) (rows : List (List Link)) (start x : List ℕ) → length x ≡ length start → ((c u : ℕ) → slice_get x c ≡ Some u → ReachedUnder rows start c u) → OnOk r (AreAllMet (are_links_met rows) (marks_of x)) → OnOk r (AreGreatest rows start x)
 settled r rows start x count reached closed = on_ok r (λ h. closed_greatest rows start x h count reached) closed
   where
     on_ok : {A E F G : Type 0} (r : Result A E) → (F → G) → OnOk r F → OnOk r G
@@ -187,7 +187,7 @@ reading rows lent c row ls targets read same below is view targets_are read_is r
 
 -- what a cell that is asked comes to
 pub record Turn (rows : List (List Link)) (x : List ℕ) (c : ℕ) (new : List ℕ) (rose : Bool) : Type 0 where
-  pub exact : rose ≡ not (is_met rows (marks_of x) c)
+  pub exact : rose ≡ not (are_links_met rows (marks_of x) c)
   pub kept : rose ≡ false → new ≡ x
   pub raised : Raised rows x c new
   pub keeps : (other : List (List Link)) (start : List ℕ) → rows ≡ other → ((d u : ℕ) → slice_get x d ≡ Some u → ReachedUnder other start d u) → (d u : ℕ) → slice_get new d ≡ Some u → ReachedUnder other start d u

@@ -12,37 +12,37 @@ use Rattle.core_program.specs.Locks.{path_of}
 use Rattle.rules.specs.Mentions.{paths_of}
 use Rattle.rules.specs.Effect.{after_stmt}
 use Rattle.levels.specs.SlotTypes.{slot_types}
-use Rattle.levels.specs.Walks.{Visit, Comes, Bad, lock_class, syncs_in, call_visits, expr_visits, exprs_visits, sync_visits, visits, block_visits, body_visits}
+use Rattle.levels.specs.Walks.{LevelVisit, Comes, Bad, lock_class, syncs_in, call_visits, expr_visits, exprs_visits, sync_visits, visits, block_visits, body_visits}
 
 no_visit : {A : Type 0} (v : A) → Contains [] v → ⊥
 no_visit v (k, below, is) = omega (arith, below)
 
-abbrev visit_method : Visit → ℕ
+abbrev visit_method : LevelVisit → ℕ
 visit_method (Comes m known u) = m
 visit_method (Bad p c u) = 0
 
-abbrev visit_known : Visit → ℕ → Held
+abbrev visit_known : LevelVisit → ℕ → Held
 visit_known (Comes m known u) = known
 visit_known (Bad p c u) = λ k q. false
 
-abbrev visit_under : Visit → ℕ
+abbrev visit_under : LevelVisit → ℕ
 visit_under (Comes m known u) = u
 visit_under (Bad p c u) = 0
 
-abbrev is_call : Visit → Bool
+abbrev is_call : LevelVisit → Bool
 is_call (Comes m known u) = true
 is_call (Bad p c u) = false
 
 module _ (u : ℕ) where
   -- the calls of the second list are those of the first, each under the greater of its level and this one
-  pub record Shifted (xs ys : List Visit) : Type 0 where
+  pub record Shifted (xs ys : List LevelVisit) : Type 0 where
     pub up : (m : ℕ) (known : ℕ → Held) (w : ℕ) → Contains xs (Comes m known w) → Contains ys (Comes m known (max u w))
     pub down : (m : ℕ) (known : ℕ → Held) (v : ℕ) → Contains ys (Comes m known v) → (w : ℕ) × (v ≡ max u w) × Contains xs (Comes m known w)
 
   shifted_none : Shifted [] []
   shifted_none = record { up = λ m known w has. absurd (no_visit _ has); down = λ m known v has. absurd (no_visit _ has) }
 
-  shifted_both : (xs ys zs ws : List Visit) → Shifted xs zs → Shifted ys ws → Shifted (xs ++ ys) (zs ++ ws)
+  shifted_both : (xs ys zs ws : List LevelVisit) → Shifted xs zs → Shifted ys ws → Shifted (xs ++ ys) (zs ++ ws)
   shifted_both xs ys zs ws first second = record {
     up = λ m known w has. elim (Contains-append_cases xs ys (Comes m known w) has) as (λ _. Contains (zs ++ ws) (Comes m known (max u w))) [
       | inl a ↦ Contains-append_left zs ws (Comes m known (max u w)) (first.up m known w a)
@@ -67,7 +67,7 @@ module _ (u : ℕ) where
   }
 
   -- a bad one more is no call
-  bad_first : (p c v : ℕ) (xs ys : List Visit) → Shifted xs ys → Shifted (Bad p c v ∷ xs) ys
+  bad_first : (p c v : ℕ) (xs ys : List LevelVisit) → Shifted xs ys → Shifted (Bad p c v ∷ xs) ys
   bad_first p c v xs ys s = record {
     up = λ m known w has. elim (contains_cases (Bad p c v) (Comes m known w) xs has) as (λ _. Contains ys (Comes m known (max u w))) [
       | inl same ↦ absurd (let e : false ≡ true = ap is_call same in cc)
@@ -76,7 +76,7 @@ module _ (u : ℕ) where
     down = λ m known k has. let r = s.down m known k has in (r.0, r.1, contains_later (Bad p c v) (Comes m known r.0) xs r.2);
   }
 
-  bad_second : (p c v : ℕ) (xs ys : List Visit) → Shifted xs ys → Shifted xs (Bad p c v ∷ ys)
+  bad_second : (p c v : ℕ) (xs ys : List LevelVisit) → Shifted xs ys → Shifted xs (Bad p c v ∷ ys)
   bad_second p c v xs ys s = record {
     up = λ m known w has. contains_later (Bad p c v) (Comes m known (max u w)) ys (s.up m known w has);
     down = λ m known k has. elim (contains_cases (Bad p c v) (Comes m known k) ys has) as (λ _. (w : ℕ) × (k ≡ max u w) × Contains xs (Comes m known w)) [
@@ -115,7 +115,7 @@ module _ (u : ℕ) where
       exprs_shift (and_expr e es) H = shifted_both (expr_visits P rel e H a) (exprs_visits P rel es H a) (expr_visits P rel e H b) (exprs_visits P rel es H b) (expr_shifts e H) (exprs_shift es H)
 
   module _ (P : Program) (rel : ℕ → List PathData) (level : ℕ → ℕ) (slots : List CoreType) where
-    sync_shifts : (held : Bool) (n class a b : ℕ) (as_a taken_a as_b taken_b : List Visit) → Shifted as_a as_b → Shifted taken_a taken_b
+    sync_shifts : (held : Bool) (n class a b : ℕ) (as_a taken_a as_b taken_b : List LevelVisit) → Shifted as_a as_b → Shifted taken_a taken_b
         → Shifted (sync_visits P rel level slots held n class a as_a taken_a) (sync_visits P rel level slots held n class b as_b taken_b)
     sync_shifts true n class a b as_a taken_a as_b taken_b first second = first
     sync_shifts false n class a b as_a taken_a as_b taken_b first second = by_levels (nat_lt a (level class)) (nat_lt b (level class))

@@ -14,7 +14,7 @@ use Rattle.level_check.specs.declared.lines.Flaw.TheVariants as flaw
 use Rattle.level_check.specs.declared.reader.LevelsFault.{LevelsFault}
 use Rattle.level_check.specs.declared.reader.LevelsFault.TheVariants as faults
 use Rattle.level_check.specs.Texts.{LevelLine}
-use Rattle.level_check.specs.Faults.{HasStood, AreNew, BeginsWithLines, HasFlaw, HasLevel, AreLevelsTold, AreLevels, IsMissing, Differs, IsUnequal, IsFirstLevelsFault}
+use Rattle.level_check.specs.Faults.{HasStood, AreNew, BeginsWithLines, HasFlaw, HasGivenLevel, AreLevelsTold, AreLevels, IsMissing, Differs, IsUnequal, IsFirstLevelsFault}
 use Rattle.level_check.specs.Kept.{is_at, level_on, IsLevelsAnswer}
 use Rattle.level_check.proofs.Fronts.{one_text, one_flaw, ends_or_not}
 
@@ -66,7 +66,7 @@ level_is_on t before (x ∷ xs) c l are among named = by (contains_cases x l xs 
         )))
         (λ h. later k)
 
-pub has_level_on : (t : TableData) (ls : List LevelLine) (c n : ℕ) → AreNew t [] ls → HasLevel t ls c n → n ≡ level_on t ls c
+pub has_level_on : (t : TableData) (ls : List LevelLine) (c n : ℕ) → AreNew t [] ls → HasGivenLevel t ls c n → n ≡ level_on t ls c
 has_level_on t ls c n are h = h.level_is ∙ sym (level_is_on t [] ls c h.line are h.among h.named)
 
 -- lists that read alike are one
@@ -82,8 +82,8 @@ same_lists (x ∷ xs) (y ∷ ys) e same =
 whole_lines : (t : TableData) (bytes : List ℕ) (ls ks : List LevelLine) → BeginsWithLines t bytes ls [] → BeginsWithLines t bytes ks [] → ls ≡ ks
 whole_lines t bytes ls ks first second = (one_text t bytes ls ks [] [] first second (inl refl) (inl refl)).0
 
-moved : (t : TableData) (ls ks : List LevelLine) (c n : ℕ) → ls ≡ ks → HasLevel t ls c n → HasLevel t ks c n
-moved t ls ks c n e h = subst (λ ls. HasLevel t ls c n) e h
+moved : (t : TableData) (ls ks : List LevelLine) (c n : ℕ) → ls ≡ ks → HasGivenLevel t ls c n → HasGivenLevel t ks c n
+moved t ls ks c n e h = subst (λ ls. HasGivenLevel t ls c n) e h
 
 pub one_told : (t : TableData) (bytes xs ys : List ℕ) → AreLevelsTold t bytes xs → AreLevelsTold t bytes ys → xs ≡ ys
 one_told t bytes xs ys a b =

@@ -11,7 +11,7 @@ use Rattle.algebra.specs.HeldPaths.{Held}
 use Rattle.core_program.specs.Core.{Program, Method}
 use Rattle.core_program.specs.declared.program.CoreMethod.{CoreMethod}
 use Rattle.core_program.specs.Views.{method_of}
-use Rattle.levels.specs.Walks.{Visit, Comes, Bad, body_visits}
+use Rattle.levels.specs.Walks.{LevelVisit, Comes, Bad, body_visits}
 use Rattle.level_check.specs.Told.{ToldLevel, Calls, Wrong, told_at, told}
 use Rattle.level_check.specs.Bodies.{body_told}
 
@@ -69,14 +69,14 @@ module _ (over : ℕ → List ℕ) where
   Runs k callee = (k ≡ callee) ⊎ Contains (over callee) k
 
   -- a call that is told comes from a visit
-  pub record IsCall (vs : List Visit) (k : ℕ) (K : Held) (w : ℕ) : Type 0 where
+  pub record IsCall (vs : List LevelVisit) (k : ℕ) (K : Held) (w : ℕ) : Type 0 where
     pub callee : ℕ
     pub known : ℕ → Held
     pub visit : Contains vs (Comes callee known w)
     pub runs : Runs k callee
     pub set : known k ≡ K
 
-  here_call : (v : Visit) (vs : List Visit) (k : ℕ) (K : Held) (w : ℕ) → Contains (told_at over v) (Calls k K w) → IsCall (v ∷ vs) k K w
+  here_call : (v : LevelVisit) (vs : List LevelVisit) (k : ℕ) (K : Held) (w : ℕ) → Contains (told_at over v) (Calls k K w) → IsCall (v ∷ vs) k K w
   here_call (Comes m known u) vs k K w has = elim (contains_cases (Calls m (known m) u) (Calls k K w) (map (λ n. Calls n (known n) u) (over m)) has) as (λ _. IsCall (Comes m known u ∷ vs) k K w) [
     | inl same ↦ record {
       callee = m;
@@ -100,7 +100,7 @@ module _ (over : ℕ → List ℕ) where
     | inr later ↦ absurd (nothing_there _ later)
   ]
 
-  pub told_call : (vs : List Visit) (k : ℕ) (K : Held) (w : ℕ) → Contains (told over vs) (Calls k K w) → IsCall vs k K w
+  pub told_call : (vs : List LevelVisit) (k : ℕ) (K : Held) (w : ℕ) → Contains (told over vs) (Calls k K w) → IsCall vs k K w
   told_call [] k K w has = absurd (nothing_there _ has)
   told_call (v ∷ vs) k K w has = elim (Contains-append_cases (told_at over v) (told over vs) (Calls k K w) has) as (λ _. IsCall (v ∷ vs) k K w) [
     | inl here ↦ here_call v vs k K w here
@@ -114,7 +114,7 @@ module _ (over : ℕ → List ℕ) where
   call_here callee known w k (inr overs) = contains_later (Calls callee (known callee) w) (Calls k (known k) w) (map (λ n. Calls n (known n) w) (over callee)) (mapped_to (λ n. Calls n (known n) w) (over callee) k overs)
 
   -- a visit's call is told
-  pub call_told : (vs : List Visit) (callee : ℕ) (known : ℕ → Held) (w k : ℕ) → Contains vs (Comes callee known w) → Runs k callee → Contains (told over vs) (Calls k (known k) w)
+  pub call_told : (vs : List LevelVisit) (callee : ℕ) (known : ℕ → Held) (w k : ℕ) → Contains vs (Comes callee known w) → Runs k callee → Contains (told over vs) (Calls k (known k) w)
   call_told [] callee known w k has runs = absurd (nothing_there _ has)
   call_told (v ∷ vs) callee known w k has runs = elim (contains_cases v (Comes callee known w) vs has) as (λ _. Contains (told_at over v ++ told over vs) (Calls k (known k) w)) [
     | inl same ↦ Contains-append_left (told_at over v) (told over vs) (Calls k (known k) w) (subst (λ x. Contains (told_at over x) (Calls k (known k) w)) (sym same) (call_here callee known w k runs))
@@ -122,14 +122,14 @@ module _ (over : ℕ → List ℕ) where
   ]
 
   -- a bad one is told
-  pub bad_told : (vs : List Visit) (p c u : ℕ) → Contains vs (Bad p c u) → Contains (told over vs) (Wrong p c u)
+  pub bad_told : (vs : List LevelVisit) (p c u : ℕ) → Contains vs (Bad p c u) → Contains (told over vs) (Wrong p c u)
   bad_told [] p c u has = absurd (nothing_there _ has)
   bad_told (v ∷ vs) p c u has = elim (contains_cases v (Bad p c u) vs has) as (λ _. Contains (told_at over v ++ told over vs) (Wrong p c u)) [
     | inl same ↦ Contains-append_left (told_at over v) (told over vs) (Wrong p c u) (subst (λ x. Contains (told_at over x) (Wrong p c u)) (sym same) (first_there (Wrong p c u) []))
     | inr later ↦ Contains-append_right (told_at over v) (told over vs) (Wrong p c u) (bad_told vs p c u later)
   ]
 
-  bad_here : (v : Visit) (vs : List Visit) (p c u : ℕ) → Contains (told_at over v) (Wrong p c u) → Contains (v ∷ vs) (Bad p c u)
+  bad_here : (v : LevelVisit) (vs : List LevelVisit) (p c u : ℕ) → Contains (told_at over v) (Wrong p c u) → Contains (v ∷ vs) (Bad p c u)
   bad_here (Comes m known w) vs p c u has = elim (contains_cases (Calls m (known m) w) (Wrong p c u) (map (λ n. Calls n (known n) w) (over m)) has) as (λ _. Contains (Comes m known w ∷ vs) (Bad p c u)) [
     | inl same ↦ absurd (let e : true ≡ false = ap told_is_call same in cc)
     | inr later ↦ let r = mapped_from (λ n. Calls n (known n) w) (over m) (Wrong p c u) later in absurd (let e : true ≡ false = ap told_is_call r.2 in cc)
@@ -140,7 +140,7 @@ module _ (over : ℕ → List ℕ) where
   ]
 
   -- what is told as bad is a bad visit
-  pub told_bad : (vs : List Visit) (p c u : ℕ) → Contains (told over vs) (Wrong p c u) → Contains vs (Bad p c u)
+  pub told_bad : (vs : List LevelVisit) (p c u : ℕ) → Contains (told over vs) (Wrong p c u) → Contains vs (Bad p c u)
   told_bad [] p c u has = absurd (nothing_there _ has)
   told_bad (v ∷ vs) p c u has = elim (Contains-append_cases (told_at over v) (told over vs) (Wrong p c u) has) as (λ _. Contains (v ∷ vs) (Bad p c u)) [
     | inl here ↦ bad_here v vs p c u here

@@ -13,29 +13,29 @@ use Rattle.core_program.specs.Views.{program_of, expr_of, exprs_from, stmt_of, s
 use Rattle.rules.specs.Effect.{after_stmt, held_under}
 use Rattle.rules.specs.Near.{rel_of}
 use Rattle.rules.specs.Search.{row_at}
-use Rattle.levels.specs.Walks.{level_in, Visit, Comes, Bad, call_visits, syncs_in, syncs_in_each, lock_class, expr_visits, exprs_visits, visits, block_visits, sync_visits}
+use Rattle.levels.specs.Walks.{level_in, LevelVisit, Comes, Bad, call_visits, syncs_in, syncs_in_each, lock_class, expr_visits, exprs_visits, visits, block_visits, sync_visits}
 use Rattle.level_check.specs.declared.walk.Walk.{Walk}
 use Rattle.level_check.specs.Told.{ToldLevel, Wrong, told_at, told, told_bad, expr_told, exprs_told, stmt_told, block_told}
 
-pub told_append : (over : ℕ → List ℕ) (xs ys : List Visit) → told over (xs ++ ys) ≡ told over xs ++ told over ys
+pub told_append : (over : ℕ → List ℕ) (xs ys : List LevelVisit) → told over (xs ++ ys) ≡ told over xs ++ told over ys
 told_append over [] ys = refl
 told_append over (x ∷ xs) ys = ap (λ r. told_at over x ++ r) (told_append over xs ys) ∙ sym (append_assoc (told_at over x) (told over xs) (told over ys))
 
-pub told_one : (over : ℕ → List ℕ) (v : Visit) → told over (v ∷ []) ≡ told_at over v
+pub told_one : (over : ℕ → List ℕ) (v : LevelVisit) → told over (v ∷ []) ≡ told_at over v
 told_one over v = append-nil (told_at over v)
 
 on_ok : {A E F G : Type 0} (r : Result A E) → (F → G) → OnOk r F → OnOk r G
 on_ok (Ok x) f h = f h
 on_ok (Err e) f h = tt
 
-two : (over : ℕ → List ℕ) (xs ys zs : List Visit) (old mid new : List ToldLevel) → zs ≡ xs ++ ys → mid ≡ old ++ told over xs → new ≡ mid ++ told over ys → new ≡ old ++ told over zs
+two : (over : ℕ → List ℕ) (xs ys zs : List LevelVisit) (old mid new : List ToldLevel) → zs ≡ xs ++ ys → mid ≡ old ++ told over xs → new ≡ mid ++ told over ys → new ≡ old ++ told over zs
 two over xs ys zs old mid new is first second =
     second ∙ ap (λ x. x ++ told over ys) first ∙ append_assoc old (told over xs) (told over ys) ∙ ap (λ x. old ++ x) (sym (ap (told over) is ∙ told_append over xs ys))
 
-pub last_of_two : {A E : Type 0} (r : Result A E) (over : ℕ → List ℕ) (xs ys zs : List Visit) (old mid new : List ToldLevel) → zs ≡ xs ++ ys → mid ≡ old ++ told over xs → OnOk r (new ≡ mid ++ told over ys) → OnOk r (new ≡ old ++ told over zs)
+pub last_of_two : {A E : Type 0} (r : Result A E) (over : ℕ → List ℕ) (xs ys zs : List LevelVisit) (old mid new : List ToldLevel) → zs ≡ xs ++ ys → mid ≡ old ++ told over xs → OnOk r (new ≡ mid ++ told over ys) → OnOk r (new ≡ old ++ told over zs)
 last_of_two r over xs ys zs old mid new is first second = on_ok r (two over xs ys zs old mid new is first) second
 
-pub last_of_three : {A E : Type 0} (r : Result A E) (over : ℕ → List ℕ) (xs ys ws zs : List Visit) (old mid late new : List ToldLevel) → zs ≡ xs ++ (ys ++ ws) → mid ≡ old ++ told over xs → late ≡ mid ++ told over ys → OnOk r (new ≡ late ++ told over ws) → OnOk r (new ≡ old ++ told over zs)
+pub last_of_three : {A E : Type 0} (r : Result A E) (over : ℕ → List ℕ) (xs ys ws zs : List LevelVisit) (old mid late new : List ToldLevel) → zs ≡ xs ++ (ys ++ ws) → mid ≡ old ++ told over xs → late ≡ mid ++ told over ys → OnOk r (new ≡ late ++ told over ws) → OnOk r (new ≡ old ++ told over zs)
 last_of_three r over xs ys ws zs old mid late new is first second third =
     on_ok r (λ last. two over xs (ys ++ ws) zs old mid new is first (two over ys ws (ys ++ ws) mid late new refl second last)) third
 
@@ -68,7 +68,7 @@ module _ (w : Walk) where
       (visits (program_of w.program.now) (rel_of w.sets.now) (level_in w.levels.now) w.slots.now s (place + 1) H u)
       (visits (program_of w.program.now) (rel_of w.sets.now) (level_in w.levels.now) w.slots.now s (place + 1) (with_path p H) (max u (level_in w.levels.now (lock_class (program_of w.program.now) w.slots.now p)))))) is
 
-  taken_at : (b : Bool) (place class u : ℕ) (taken : List Visit) → told (row_at w.over.now) (if b then taken else Bad place class u ∷ taken) ≡ (if b then [] else Wrong place class u ∷ []) ++ told (row_at w.over.now) taken
+  taken_at : (b : Bool) (place class u : ℕ) (taken : List LevelVisit) → told (row_at w.over.now) (if b then taken else Bad place class u ∷ taken) ≡ (if b then [] else Wrong place class u ∷ []) ++ told (row_at w.over.now) taken
   taken_at true place class u taken = refl
   taken_at false place class u taken = refl
 
@@ -82,7 +82,7 @@ module _ (w : Walk) where
       ∙ taken_at (nat_lt u (level_in w.levels.now (lock_class (program_of w.program.now) w.slots.now p))) place (lock_class (program_of w.program.now) w.slots.now p) u _
 
   -- an expression of two parts
-  pub both_told : {A E : Type 0} (r : Result A E) (H : Held) (u : ℕ) (zs : List Visit) (a b a2 b2 : CoreExpr) (old mid new : List ToldLevel)
+  pub both_told : {A E : Type 0} (r : Result A E) (H : Held) (u : ℕ) (zs : List LevelVisit) (a b a2 b2 : CoreExpr) (old mid new : List ToldLevel)
       → zs ≡ expr_visits (program_of w.program.now) (rel_of w.sets.now) (expr_of a) H u ++ expr_visits (program_of w.program.now) (rel_of w.sets.now) (expr_of b) H u → a2 ≡ a → b2 ≡ b
       → mid ≡ old ++ expr_told w (expr_of a2) H u → OnOk r (new ≡ mid ++ expr_told w (expr_of b2) H u) → OnOk r (new ≡ old ++ told (row_at w.over.now) zs)
   both_told r H u zs a b a2 b2 old mid new is first second one other =
@@ -90,7 +90,7 @@ module _ (w : Walk) where
       (is ∙ (λ i. expr_visits (program_of w.program.now) (rel_of w.sets.now) (expr_of (sym first i)) H u ++ expr_visits (program_of w.program.now) (rel_of w.sets.now) (expr_of (sym second i)) H u)) one other
 
   -- a call: its receiver, its arguments, and the call itself
-  pub call_told : {A E : Type 0} (r : Result A E) (H : Held) (u : ℕ) (zs : List Visit) (a a2 a3 : CoreExpr) (m : ℕ) (args args2 args3 : List CoreExpr) (old mid late new : List ToldLevel)
+  pub call_told : {A E : Type 0} (r : Result A E) (H : Held) (u : ℕ) (zs : List LevelVisit) (a a2 a3 : CoreExpr) (m : ℕ) (args args2 args3 : List CoreExpr) (old mid late new : List ToldLevel)
       → zs ≡ expr_visits (program_of w.program.now) (rel_of w.sets.now) (expr_of a) H u ++ (exprs_visits (program_of w.program.now) (rel_of w.sets.now) (exprs_from args) H u
       ++ call_visits (program_of w.program.now) (rel_of w.sets.now) m (path_of (program_of w.program.now) (expr_of a)) (paths_of (program_of w.program.now) (exprs_from args)) H u)
       → a2 ≡ a → a3 ≡ a → args2 ≡ args → args3 ≡ args
@@ -105,7 +105,7 @@ module _ (w : Walk) where
       (on_ok r (λ e. e ∙ ap (λ x. late ++ x) (sym (told_one (row_at w.over.now) (Comes m (λ k. held_under (rel_of w.sets.now k) (path_of (program_of w.program.now) (expr_of a3)) (paths_of (program_of w.program.now) (exprs_from args3)) H) u)))) last)
 
   -- a loop: its test and its body
-  pub while_told : {A E : Type 0} (r : Result A E) (H : Held) (u place : ℕ) (zs : List Visit) (a a2 : CoreExpr) (b b2 : CoreStmt) (old mid new : List ToldLevel)
+  pub while_told : {A E : Type 0} (r : Result A E) (H : Held) (u place : ℕ) (zs : List LevelVisit) (a a2 : CoreExpr) (b b2 : CoreStmt) (old mid new : List ToldLevel)
       → zs ≡ expr_visits (program_of w.program.now) (rel_of w.sets.now) (expr_of a) H u ++ visits (program_of w.program.now) (rel_of w.sets.now) (level_in w.levels.now) w.slots.now (stmt_of b) place H u → a2 ≡ a → b2 ≡ b
       → mid ≡ old ++ expr_told w (expr_of a2) H u → OnOk r (new ≡ mid ++ stmt_told w (stmt_of b2) place H u) → OnOk r (new ≡ old ++ told (row_at w.over.now) zs)
   while_told r H u place zs a a2 b b2 old mid new is first second one other =
@@ -113,7 +113,7 @@ module _ (w : Walk) where
       (is ∙ (λ i. expr_visits (program_of w.program.now) (rel_of w.sets.now) (expr_of (sym first i)) H u ++ visits (program_of w.program.now) (rel_of w.sets.now) (level_in w.levels.now) w.slots.now (stmt_of (sym second i)) place H u)) one other
 
   -- a choice: its test and its branches
-  pub if_told : {A E : Type 0} (r : Result A E) (H : Held) (u place later : ℕ) (zs : List Visit) (a a2 : CoreExpr) (b b2 d d2 : CoreStmt) (old mid late new : List ToldLevel)
+  pub if_told : {A E : Type 0} (r : Result A E) (H : Held) (u place later : ℕ) (zs : List LevelVisit) (a a2 : CoreExpr) (b b2 d d2 : CoreStmt) (old mid late new : List ToldLevel)
       → zs ≡ expr_visits (program_of w.program.now) (rel_of w.sets.now) (expr_of a) H u ++ (visits (program_of w.program.now) (rel_of w.sets.now) (level_in w.levels.now) w.slots.now (stmt_of b) place H u
       ++ visits (program_of w.program.now) (rel_of w.sets.now) (level_in w.levels.now) w.slots.now (stmt_of d) (place + syncs_in (stmt_of b)) H u) → a2 ≡ a → b2 ≡ b → d2 ≡ d → later ≡ place + syncs_in (stmt_of b2)
       → mid ≡ old ++ expr_told w (expr_of a2) H u → late ≡ mid ++ stmt_told w (stmt_of b2) place H u → OnOk r (new ≡ late ++ stmt_told w (stmt_of d2) later H u) → OnOk r (new ≡ old ++ told (row_at w.over.now) zs)

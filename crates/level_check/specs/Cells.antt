@@ -61,7 +61,7 @@ runs_of [] = []
 runs_of (c ∷ cs) = run_in c.run ++ runs_of cs
 
 -- the cells are those of these methods, with nothing held, under level 0
-pub record AreBegun (ms : List ℕ) (q : Queue) : Type 0 where
+pub record AreFirstCells (ms : List ℕ) (q : Queue) : Type 0 where
   pub even : IsEven q
   pub each : (m : ℕ) → Contains ms m → HasCell q.cells m (λ p. false)
   pub only : (c u : ℕ) (cell : Cell) → HasLevel q c cell u → Contains ms cell.method × (set_of cell ≡ (λ p. false)) × (u ≡ 0)
@@ -72,9 +72,9 @@ pub record AreCellLinks (cells : List Cell) (told : List ToldLevel) (links : Lis
   pub only : (link : Link) → Contains links link → (cell : Cell) × (slice_get cells link.to ≡ Some cell) × Contains told (Calls cell.method (set_of cell) link.level)
 
 -- a call that is told was linked to its cell, which was found, or added with the greater of its level and this one; nothing else changes anything
-abbrev pub IsNoted : ToldLevel → ℕ → Queue → Queue → List Link → List Link → Type 0
-IsNoted (Calls m H w) from old new links longer = (link : Link) × (longer ≡ links ++ link ∷ []) × (link.level ≡ w) × IsAdded old m H (max from w) link.to new
-IsNoted (Wrong p c u) from old new links longer = (new ≡ old) × (longer ≡ links)
+abbrev pub IsLinked : ToldLevel → ℕ → Queue → Queue → List Link → List Link → Type 0
+IsLinked (Calls m H w) from old new links longer = (link : Link) × (longer ≡ links ++ link ∷ []) × (link.level ≡ w) × IsAdded old m H (max from w) link.to new
+IsLinked (Wrong p c u) from old new links longer = (new ≡ old) × (longer ≡ links)
 
 -- the cells of what is called were added, each with the greater of its level and this one
 pub record AreAdded (told : List ToldLevel) (from : ℕ) (old new : Queue) (links : List Link) : Type 0 where

@@ -56,7 +56,7 @@ pub record HasFlaw (t : TableData) (bytes : List ℕ) (kind : Flaw) (place : ℕ
   pub place_is : place ≡ length bytes - length wrong
 
 -- a line of the class has this level
-pub record HasLevel (t : TableData) (lines : List LevelLine) (class level : ℕ) : Type 0 where
+pub record HasGivenLevel (t : TableData) (lines : List LevelLine) (class level : ℕ) : Type 0 where
   pub line : LevelLine
   pub among : Contains lines line
   pub named : class_number t line.name ≡ Some class
@@ -67,7 +67,7 @@ pub record AreLevelsTold (t : TableData) (bytes levels : List ℕ) : Type 0 wher
   pub lines : List LevelLine
   pub begins : BeginsWithLines t bytes lines []
   pub count : length levels ≡ length t.names
-  pub each : (class level : ℕ) → slice_get levels class ≡ Some level → HasLevel t lines class level
+  pub each : (class level : ℕ) → slice_get levels class ≡ Some level → HasGivenLevel t lines class level
 
 -- the levels that the text gives: each class has the level of the class that it extends
 pub record AreLevels (t : TableData) (P : Program) (bytes levels : List ℕ) : Type 0 where
@@ -79,8 +79,8 @@ pub record IsMissing (t : TableData) (bytes : List ℕ) (class : ℕ) : Type 0 w
   pub lines : List LevelLine
   pub begins : BeginsWithLines t bytes lines []
   pub there : class < length t.names
-  pub none : (level : ℕ) → HasLevel t lines class level → ⊥
-  pub earlier : (c : ℕ) → c < class → (level : ℕ) × HasLevel t lines c level
+  pub none : (level : ℕ) → HasGivenLevel t lines class level → ⊥
+  pub earlier : (c : ℕ) → c < class → (level : ℕ) × HasGivenLevel t lines c level
 
 -- the class has another level than the class that it extends
 abbrev pub Differs : Program → List ℕ → ℕ → Type 0

@@ -49,8 +49,8 @@ abbrev pub numbers_of : CellNumbers → List ℕ
 numbers_of marks = map number_of marks
 
 -- whether the links of a cell have got what they ask
-abbrev pub is_met : List (List Link) → CellNumbers → ℕ → Bool
-is_met rows marks c = are_met_from (numbers_of marks) (slice_get (numbers_of marks) c) (links_at rows c)
+abbrev pub are_links_met : List (List Link) → CellNumbers → ℕ → Bool
+are_links_met rows marks c = are_met_from (numbers_of marks) (slice_get (numbers_of marks) c) (links_at rows c)
 
 -- whether one of the links leads to a cell
 abbrev pub leads_to : List Link → ℕ → Bool

@@ -5,7 +5,7 @@ use Rattle.core_program.specs.Views.{program_of}
 use Rattle.core_program.specs.Core.{Expr, Exprs, Stmt, Stmts}
 use Rattle.rules.specs.Near.{rel_of}
 use Rattle.rules.specs.Search.{row_at}
-use Rattle.levels.specs.Walks.{Visit, Comes, Bad, level_in, expr_visits, exprs_visits, visits, block_visits}
+use Rattle.levels.specs.Walks.{LevelVisit, Comes, Bad, level_in, expr_visits, exprs_visits, visits, block_visits}
 use Rattle.level_check.specs.declared.told.Seen.{Seen}
 use Rattle.level_check.specs.declared.told.Seen.TheVariants as seen
 use Rattle.level_check.specs.declared.walk.Walk.{Walk}
@@ -16,12 +16,12 @@ pub data ToldLevel : Type 0 where
   Wrong : ℕ → ℕ → ℕ → ToldLevel
 
 -- what a visit tells, where these methods override others
-abbrev pub told_at : (ℕ → List ℕ) → Visit → List ToldLevel
+abbrev pub told_at : (ℕ → List ℕ) → LevelVisit → List ToldLevel
 told_at over (Comes m known under) = Calls m (known m) under ∷ map (λ k. Calls k (known k) under) (over m)
 told_at over (Bad place class under) = Wrong place class under ∷ []
 
 -- what visits tell
-abbrev pub told : (ℕ → List ℕ) → List Visit → List ToldLevel
+abbrev pub told : (ℕ → List ℕ) → List LevelVisit → List ToldLevel
 told over [] = []
 told over (v ∷ vs) = told_at over v ++ told over vs
 

@@ -5,7 +5,7 @@ ghost use Rattle.core_program.specs.Views.{program_of};
 ghost use Rattle.algebra.specs.HeldPaths.{has_path};
 ghost use Rattle.level_check.specs.Told.{Calls, told_level_of};
 ghost use Rattle.level_check.specs.Bodies.{told_from};
-ghost use Rattle.level_check.specs.Cells.{runs_of, queue_of, AreBegun, AreAdded, IsNoted, AreFollowed, AreAllFollowed};
+ghost use Rattle.level_check.specs.Cells.{runs_of, queue_of, AreFirstCells, AreAdded, IsLinked, AreFollowed, AreAllFollowed};
 
 use crate::cells::{Cell, Cells};
 use crate::judged::{Judged, seen_in};
@@ -32,7 +32,7 @@ fn first_methods(alloc: Global, program: &CoreProgram) -> Result<Vec<MethodId>, 
 
 /// The cells of these methods with nothing held, under level 0.
 fn cells_of(alloc: Global, methods: &[MethodId]) -> Result<Cells, NoMemory>
-    ensures { IfOk result (λ cells. AreBegun methods.now (queue_of cells)) }
+    ensures { IfOk result (λ cells. AreFirstCells methods.now (queue_of cells)) }
 {
     let mut cells = Cells::new(alloc);
     for method in methods {
@@ -47,7 +47,7 @@ fn cells_of(alloc: Global, methods: &[MethodId]) -> Result<Cells, NoMemory>
 
 /// The cells where threads begin.
 pub(crate) fn first_cells(alloc: Global, program: &CoreProgram) -> Result<Cells, NoMemory>
-    ensures { IfOk result (λ cells. AreBegun ((program_of program.now).main ∷ runs_of (program_of program.now).classes) (queue_of cells)) }
+    ensures { IfOk result (λ cells. AreFirstCells ((program_of program.now).main ∷ runs_of (program_of program.now).classes) (queue_of cells)) }
 {
     let methods = first_methods(alloc, program)?;
     cells_of(alloc, methods.as_slice())
@@ -61,7 +61,7 @@ fn add_call(
     cells: &mut Cells,
     links: &mut Vec<Link>,
 ) -> Result<(), NoMemory>
-    ensures { OnOk result (IsNoted (Calls cell.method (has_path cell.held.items) under) from (queue_of cells.old) (queue_of cells.new) links.old.items links.new.items) }
+    ensures { OnOk result (IsLinked (Calls cell.method (has_path cell.held.items) under) from (queue_of cells.old) (queue_of cells.new) links.old.items links.new.items) }
 {
     let to = cells.add(cell, from.max(under))?;
     links.push(Link { to, level: under })?;
@@ -76,7 +76,7 @@ fn add_visit(
     cells: &mut Cells,
     links: &mut Vec<Link>,
 ) -> Result<(), NoMemory>
-    ensures { OnOk result (IsNoted (told_level_of visit.now) from (queue_of cells.old) (queue_of cells.new) links.old.items links.new.items) }
+    ensures { OnOk result (IsLinked (told_level_of visit.now) from (queue_of cells.old) (queue_of cells.new) links.old.items links.new.items) }
 {
     match visit {
         Seen::Comes {

@@ -1,7 +1,7 @@
 //! Levels as the numbers of a least fixpoint.
 ghost use Rattle.std.specs.Prelude.{◌≡◌, ℕ, length, Some, slice_get, OnOk};
 ghost use Rattle.level_check.specs.Greatest.{links_at, ReachedUnder, AreGreatest};
-ghost use Rattle.level_check.specs.Rises.{marks_of, is_met, leads_to};
+ghost use Rattle.level_check.specs.Rises.{marks_of, are_links_met, leads_to};
 
 use crate::link::CellLinks;
 use crate::raise::raise_links;
@@ -19,7 +19,7 @@ pub(crate) struct Cells {
 impl Rising for Cells {
     ghost marks = { λ s. marks_of s.levels.items };
 
-    ghost met = { λ s. is_met s.rows.items };
+    ghost met = { λ s. are_links_met s.rows.items };
 
     ghost left = { λ s. s.room };
 

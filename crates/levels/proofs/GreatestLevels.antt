@@ -14,25 +14,25 @@ use Rattle.core_program.specs.Locks.{path_of}
 use Rattle.rules.specs.Mentions.{paths_of}
 use Rattle.rules.specs.Effect.{after_stmt}
 use Rattle.levels.specs.SlotTypes.{slot_types}
-use Rattle.levels.specs.Walks.{Visit, Comes, Bad, lock_class, syncs_in, syncs_in_each, call_visits, expr_visits, exprs_visits, sync_visits, visits, block_visits, body_visits}
+use Rattle.levels.specs.Walks.{LevelVisit, Comes, Bad, lock_class, syncs_in, syncs_in_each, call_visits, expr_visits, exprs_visits, sync_visits, visits, block_visits, body_visits}
 use Rattle.levels.specs.Contexts.{MayRun, Context, at_main, at_start, at_call, IsBadAt, IsOrdered, IsFirstBad}
 
 no_visit : {A : Type 0} (v : A) → Contains [] v → ⊥
 no_visit v (k, below, is) = omega (arith, below)
 
-abbrev bad_place : Visit → ℕ
+abbrev bad_place : LevelVisit → ℕ
 bad_place (Comes m known u) = 0
 bad_place (Bad p c u) = p
 
-abbrev bad_class : Visit → ℕ
+abbrev bad_class : LevelVisit → ℕ
 bad_class (Comes m known u) = 0
 bad_class (Bad p c u) = c
 
-abbrev bad_under : Visit → ℕ
+abbrev bad_under : LevelVisit → ℕ
 bad_under (Comes m known u) = 0
 bad_under (Bad p c u) = u
 
-abbrev is_bad : Visit → Bool
+abbrev is_bad : LevelVisit → Bool
 is_bad (Comes m known u) = false
 is_bad (Bad p c u) = true
 
@@ -132,7 +132,7 @@ module _ (P : Program) (rel : ℕ → List PathData) where
         shifted : (n k : ℕ) → n + 1 + k ≡ n + suc k
         shifted n k = omega arith
 
-    sync_placed : (held : Bool) (n class under p c u : ℕ) (classes : List ℕ) (as_it_is taken : List Visit) → (Contains as_it_is (Bad p c u) → Placed (n + 1) p classes c) → (Contains taken (Bad p c u) → Placed (n + 1) p classes c)
+    sync_placed : (held : Bool) (n class under p c u : ℕ) (classes : List ℕ) (as_it_is taken : List LevelVisit) → (Contains as_it_is (Bad p c u) → Placed (n + 1) p classes c) → (Contains taken (Bad p c u) → Placed (n + 1) p classes c)
         → Contains (sync_visits P rel level slots held n class under as_it_is taken) (Bad p c u) → Placed n p (class ∷ classes) c
     sync_placed true n class under p c u classes as_it_is taken first second has = placed_later n p c class classes (first has)
     sync_placed false n class under p c u classes as_it_is taken first second has = by_level (nat_lt under (level class)) has
@@ -217,14 +217,14 @@ module _ (P : Program) (rel : ℕ → List PathData) where
   -- Greater levels.
 
   -- each visit of the first list has one of the second that is the same under a level at least as great
-  pub record Covers (xs ys : List Visit) : Type 0 where
+  pub record Covers (xs ys : List LevelVisit) : Type 0 where
     pub comes : (m : ℕ) (known : ℕ → Held) (u : ℕ) → Contains xs (Comes m known u) → (v : ℕ) × (u ≤ v) × Contains ys (Comes m known v)
     pub bad : (p c u : ℕ) → Contains xs (Bad p c u) → (v : ℕ) × (u ≤ v) × Contains ys (Bad p c v)
 
-  covers_none : (ys : List Visit) → Covers [] ys
+  covers_none : (ys : List LevelVisit) → Covers [] ys
   covers_none ys = record { comes = λ m known u has. absurd (no_visit _ has); bad = λ p c u has. absurd (no_visit _ has) }
 
-  covers_both : (xs ys zs ws : List Visit) → Covers xs zs → Covers ys ws → Covers (xs ++ ys) (zs ++ ws)
+  covers_both : (xs ys zs ws : List LevelVisit) → Covers xs zs → Covers ys ws → Covers (xs ++ ys) (zs ++ ws)
   covers_both xs ys zs ws first second = record {
     comes = λ m known u has. elim (Contains-append_cases xs ys (Comes m known u) has) as (λ _. (v : ℕ) × (u ≤ v) × Contains (zs ++ ws) (Comes m known v)) [
       | inl a ↦ let r = first.comes m known u a in (r.0, r.1, Contains-append_left zs ws (Comes m known r.0) r.2)
@@ -236,21 +236,21 @@ module _ (P : Program) (rel : ℕ → List PathData) where
     ];
   }
 
-  covers_more : (v : Visit) (xs ys : List Visit) → Covers xs ys → Covers xs (v ∷ ys)
+  covers_more : (v : LevelVisit) (xs ys : List LevelVisit) → Covers xs ys → Covers xs (v ∷ ys)
   covers_more v xs ys c = record {
     comes = λ m known u has. let r = c.comes m known u has in (r.0, r.1, Rattle.base.proofs.Lists.contains_later v (Comes m known r.0) ys r.2);
     bad = λ p d u has. let r = c.bad p d u has in (r.0, r.1, Rattle.base.proofs.Lists.contains_later v (Bad p d r.0) ys r.2);
   }
 
-  abbrev first_comes : Visit → ℕ
+  abbrev first_comes : LevelVisit → ℕ
   first_comes (Comes m known u) = m
   first_comes (Bad p c u) = 0
 
-  abbrev come_under : Visit → ℕ
+  abbrev come_under : LevelVisit → ℕ
   come_under (Comes m known u) = u
   come_under (Bad p c u) = 0
 
-  abbrev come_known : Visit → ℕ → Held
+  abbrev come_known : LevelVisit → ℕ → Held
   come_known (Comes m known u) = known
   come_known (Bad p c u) = λ k q. false
 
@@ -266,7 +266,7 @@ module _ (P : Program) (rel : ℕ → List PathData) where
     ];
   }
 
-  covers_bad : (n c low high : ℕ) (xs ys : List Visit) → low ≤ high → Covers xs ys → Covers (Bad n c low ∷ xs) (Bad n c high ∷ ys)
+  covers_bad : (n c low high : ℕ) (xs ys : List LevelVisit) → low ≤ high → Covers xs ys → Covers (Bad n c low ∷ xs) (Bad n c high ∷ ys)
   covers_bad n c low high xs ys le covers = record {
     comes = λ m known u has. elim (contains_cases (Bad n c low) (Comes m known u) xs has) as (λ _. (v : ℕ) × (u ≤ v) × Contains (Bad n c high ∷ ys) (Comes m known v)) [
       | inl same ↦ absurd (let e : true ≡ false = ap is_bad same in cc)
@@ -306,7 +306,7 @@ module _ (P : Program) (rel : ℕ → List PathData) where
   max_rises a b c le = omega (arith, le)
 
   module _ (level : ℕ → ℕ) (slots : List CoreType) where
-    sync_rises : (held : Bool) (n class low high : ℕ) (as_low taken_low as_high taken_high : List Visit) → low ≤ high → Covers as_low as_high → Covers taken_low taken_high
+    sync_rises : (held : Bool) (n class low high : ℕ) (as_low taken_low as_high taken_high : List LevelVisit) → low ≤ high → Covers as_low as_high → Covers taken_low taken_high
         → Covers (sync_visits P rel level slots held n class low as_low taken_low) (sync_visits P rel level slots held n class high as_high taken_high)
     sync_rises true n class low high as_low taken_low as_high taken_high le first second = first
     sync_rises false n class low high as_low taken_low as_high taken_high le first second = by_levels (nat_lt low (level class)) (nat_lt high (level class)) refl refl

@@ -45,7 +45,7 @@ use Rattle.levels.specs.TypedStates.{Stays, IsTypedHeap, AreTypedSlots, IsTypedF
 use Rattle.levels.proofs.Suiting.{suited_program}
 use Rattle.levels.proofs.TypedRuns.{runs_keep, stepping, step_is_typed, step_typed, initial_typed}
 use Rattle.levels.proofs.TypedChanges.{IsSuitedProgram}
-use Rattle.levels.specs.Walks.{Visit, Bad, lock_class, sync_visits, visits}
+use Rattle.levels.specs.Walks.{LevelVisit, Bad, lock_class, sync_visits, visits}
 use Rattle.levels.specs.Contexts.{Context, at_main, at_call, IsOrdered}
 use Rattle.levels.specs.Circles.{IsChain, Circle}
 use Rattle.levels.proofs.Ranked.{IsUnder, Fine, RankedNext, RankedOpens, FramesRanked, RankedThread, AreCounted}
@@ -277,7 +277,7 @@ module _ (P : Program) (rel : ℕ → List PathData) (level : ℕ → ℕ) (prog
           slots_typed : AreTypedSlots P level (M.get q.heap) (slot_types walked.0.0.method) w.frame.slots
           slots_typed = subst (λ (m : Method). AreTypedSlots P level (M.get q.heap) (slot_types m) w.frame.slots) (same_Some typed.0.method walked.0.0.method (sym typed.0.is ∙ walked.0.0.is)) typed.0.slots
 
-          above_if : (b : Bool) (n : ℕ) (vs : List Visit) → nat_lt r.0.under (level (lock_class P (slot_types walked.0.0.method) r.0.rest.0)) ≡ b
+          above_if : (b : Bool) (n : ℕ) (vs : List LevelVisit) → nat_lt r.0.under (level (lock_class P (slot_types walked.0.0.method) r.0.rest.0)) ≡ b
               → Fine P rel level (if b then vs else Bad n (lock_class P (slot_types walked.0.0.method) r.0.rest.0) r.0.under ∷ vs) → r.0.under < level (lock_class P (slot_types walked.0.0.method) r.0.rest.0)
           above_if true n vs e fine = ltb-true r.0.under (level (lock_class P (slot_types walked.0.0.method) r.0.rest.0)) e
           above_if false n vs e fine = absurd (fine.none_bad n (lock_class P (slot_types walked.0.0.method) r.0.rest.0) r.0.under (0, omega arith, refl))

@@ -22,7 +22,7 @@ use Rattle.state.specs.Work as W
 use Rattle.state.specs.Work.{Action, Item, Ex, St, Act, Next, exprs_items, stmts_items, gets, open_expr, open_new, open_stmt, open_block, opened, first_release, open_return, settled, settled_some, unfolded}
 use Rattle.semantics.specs.Step.{has_result}
 use Rattle.reduction.specs.Leads.{Env, machine_memory, Grows, Paths, MayLeadTo, with_slot, top_path, under_path, taken_paths, dropped_paths}
-use Rattle.reduction.specs.Fits.{SlotsAgree, Fresh, FreshEach, TidyE, TidyEach, TidyS, TidyBlock, argument_count, arity_of, finals_of, stores, stores_each, has_release, pushed, awaited}
+use Rattle.reduction.specs.Fits.{SlotsAgree, Fresh, FreshEach, TidyE, TidyEach, TidyS, TidyBlock, argument_count, arity_of, final_field_count, stores, stores_each, has_release, pushed, awaited}
 use Rattle.reduction.specs.Safe.{releases_in_work}
 use Rattle.state.specs.States.{Frame}
 use Rattle.reduction.proofs.LeadLemmas.{leads_grows, may_shrink, sound_grows, each_grows}
@@ -31,7 +31,7 @@ use Rattle.reduction.proofs.SetLemmas.{after_sound, after_fresh}
 use Rattle.reduction.proofs.PushedPaths.{pushed_each, taken_all, dropped_all, on_pushed, exprs_release, stmts_release}
 use Rattle.levels.specs.SlotTypes.{slot_types}
 use Rattle.levels.specs.TypedStates.{Stays}
-use Rattle.levels.specs.Walks.{Visit, call_visits, expr_visits, exprs_visits, visits, block_visits}
+use Rattle.levels.specs.Walks.{LevelVisit, call_visits, expr_visits, exprs_visits, visits, block_visits}
 use Rattle.levels.proofs.Ranked.{IsUnder, Stands, At, Fine, RankedAct, RankedItem, Ranked, RankedNext, RankedOpens, FramesRanked}
 
 -- Releases in lists of parts.
@@ -45,13 +45,13 @@ call_pushed true os = refl
 call_pushed false os = refl
 
 module _ (P : Program) (rel : ℕ → List PathData) (level : ℕ → ℕ) where
-  pub fine_first : (xs ys : List Visit) → Fine P rel level (xs ++ ys) → Fine P rel level xs
+  pub fine_first : (xs ys : List LevelVisit) → Fine P rel level (xs ++ ys) → Fine P rel level xs
   fine_first xs ys f = record {
     comes = λ m known u has k runs. f.comes m known u (Contains-append_left xs ys _ has) k runs;
     none_bad = λ place c u has. f.none_bad place c u (Contains-append_left xs ys _ has);
   }
 
-  pub fine_second : (xs ys : List Visit) → Fine P rel level (xs ++ ys) → Fine P rel level ys
+  pub fine_second : (xs ys : List LevelVisit) → Fine P rel level (xs ++ ys) → Fine P rel level ys
   fine_second xs ys f = record {
     comes = λ m known u has k runs. f.comes m known u (Contains-append_right xs ys _ has) k runs;
     none_bad = λ place c u has. f.none_bad place c u (Contains-append_right xs ys _ has);
@@ -97,9 +97,9 @@ module _ (P : Program) (rel : ℕ → List PathData) (level : ℕ → ℕ) (slot
             (subst (λ z. Ranked P rel level slots objects outer more env z) (call_pushed (has_result (slice_get P.methods m)) os) r),
       )
 
-  new_ranked : (c : ℕ) (args : Exprs) (more : List Item) (env : Env) (os : Paths) → finals_of (slice_get P.classes c) ≡ argument_count args → Ranked P rel level slots objects outer more env (None ∷ os)
+  new_ranked : (c : ℕ) (args : Exprs) (more : List Item) (env : Env) (os : Paths) → final_field_count (slice_get P.classes c) ≡ argument_count args → Ranked P rel level slots objects outer more env (None ∷ os)
       → Ranked P rel level slots objects outer (Act (W.New c) ∷ more) env (pushed_each P args os)
-  new_ranked c args more env os count r = subst (λ z. Ranked P rel level slots objects outer more env (None ∷ z)) (sym (dropped_all P args (finals_of (slice_get P.classes c)) os count)) r
+  new_ranked c args more env os count r = subst (λ z. Ranked P rel level slots objects outer more env (None ∷ z)) (sym (dropped_all P args (final_field_count (slice_get P.classes c)) os count)) r
 
   mutual
     pub expr_opens : (e : Expr) (more : List Item) (env : Env) (H : Held) (under : ℕ) (os : Paths) → Stands P level objects env H under (held_at more) → TidyE P e → Fine P rel level (expr_visits P rel e H under)
@@ -357,7 +357,7 @@ module _ (P : Program) (rel : ℕ → List PathData) (level : ℕ → ℕ) (old 
     act_grows more G K f (W.Loop c s) env os r = (at_grows outer env more _ r.0, λ later kept. f later [] (r.1 later kept))
     act_grows more G K f (W.Get x) env os r = f env (get_path P x (top_path os) ∷ under_path os) r
     act_grows more G K f (W.Put x) env os r = f env (under_path (under_path os)) r
-    act_grows more G K f (W.New c) env os r = f env (None ∷ dropped_paths (finals_of (slice_get P.classes c)) os) r
+    act_grows more G K f (W.New c) env os r = f env (None ∷ dropped_paths (final_field_count (slice_get P.classes c)) os) r
     act_grows more G K f (W.Call m) env os r = (at_grows outer env more _ r.0, f env (awaited P m ++ under_path (dropped_paths (arity_of (slice_get P.methods m)) os)) r.1)
     act_grows more G K f (W.Acquire s) env os r = (at_grows outer env more _ r.0, λ later kept. f later [] (r.1 later kept))
     act_grows more G K f (W.Release a) env os r = f env [] r

@@ -11,8 +11,8 @@ use Rattle.state.specs.declared.value.Address.{Address}
 use Rattle.state.specs.Work as W
 use Rattle.state.specs.Work.{Action, Item, Ex, St, Act, Next, exprs_items, stmts_items, gets, open_expr, open_new, open_stmt, open_block, opened, first_release, open_return, settled, settled_some, unfolded}
 use Rattle.semantics.specs.Step.{has_result}
-use Rattle.reduction.specs.Fits.{arity_of, finals_of, argument_count, valued, TidyE, TidyEach, TidyS, TidyBlock}
-use Rattle.levels.specs.SlotTypes.{SlotType, method_result, taken_by_method, taken_by_new, expression_type, SuitEach, under_types, taken_types, dropped_types}
+use Rattle.reduction.specs.Fits.{arity_of, final_field_count, argument_count, valued, TidyE, TidyEach, TidyS, TidyBlock}
+use Rattle.levels.specs.SlotTypes.{SlotType, result_slot_type, taken_by_method, taken_by_new, expression_type, SuitEach, under_types, taken_types, dropped_types}
 use Rattle.levels.specs.Suited.{brought, SuitsResult, SuitedE, SuitedEach, pushed_types, SuitedS, SuitedBlock, SuitedAct, Suited, SuitedNext, SuitedOpens}
 
 module _ (P : Program) (mark : ℕ → ℕ) (slots : List CoreType) where
@@ -64,7 +64,7 @@ module _ (P : Program) (mark : ℕ → ℕ) (slots : List CoreType) where
   on_pushed Q e ts is q = subst Q (sym (ap (λ b. if b then expression_type P slots e ∷ ts else ts) is)) q
 
   -- a call that leaves an operand leaves its result
-  call_brings : (o : Option Rattle.core_program.specs.Core.Method) (ts : List SlotType) → (if has_result o then method_result o ∷ ts else ts) ≡ brought (method_result o) ++ ts
+  call_brings : (o : Option Rattle.core_program.specs.Core.Method) (ts : List SlotType) → (if has_result o then result_slot_type o ∷ ts else ts) ≡ brought (result_slot_type o) ++ ts
   call_brings None ts = refl
   call_brings (Some m) ts = by_result m.result
     where
@@ -87,15 +87,15 @@ module _ (P : Program) (mark : ℕ → ℕ) (slots : List CoreType) where
     call_suited e m args more ts count s r =
         let n = arity_of (slice_get P.methods m) in (
           subst (λ z. SuitEach mark z (taken_by_method (slice_get P.methods m))) (sym (taken_all args (arity_of (slice_get P.methods m)) (expression_type P slots e ∷ ts) count)) (each_suits args (taken_by_method (slice_get P.methods m)) s),
-          subst (λ z. Suited P mark slots result more (brought (method_result (slice_get P.methods m)) ++ under_types z)) (sym (dropped_all args (arity_of (slice_get P.methods m)) (expression_type P slots e ∷ ts) count))
+          subst (λ z. Suited P mark slots result more (brought (result_slot_type (slice_get P.methods m)) ++ under_types z)) (sym (dropped_all args (arity_of (slice_get P.methods m)) (expression_type P slots e ∷ ts) count))
               (subst (λ z. Suited P mark slots result more z) (call_brings (slice_get P.methods m) ts) r),
         )
 
-    new_suited : (c : ℕ) (args : Exprs) (more : List Item) (ts : List SlotType) → finals_of (slice_get P.classes c) ≡ argument_count args → SuitedEach P mark slots args (taken_by_new P (slice_get P.classes c))
+    new_suited : (c : ℕ) (args : Exprs) (more : List Item) (ts : List SlotType) → final_field_count (slice_get P.classes c) ≡ argument_count args → SuitedEach P mark slots args (taken_by_new P (slice_get P.classes c))
         → Suited P mark slots result more (Some (type.Class c) ∷ ts) → Suited P mark slots result (Act (W.New c) ∷ more) (pushed_each args ts)
     new_suited c args more ts count s r = (
-      subst (λ z. SuitEach mark z (taken_by_new P (slice_get P.classes c))) (sym (taken_all args (finals_of (slice_get P.classes c)) ts count)) (each_suits args (taken_by_new P (slice_get P.classes c)) s),
-      subst (λ z. Suited P mark slots result more (Some (type.Class c) ∷ z)) (sym (dropped_all args (finals_of (slice_get P.classes c)) ts count)) r,
+      subst (λ z. SuitEach mark z (taken_by_new P (slice_get P.classes c))) (sym (taken_all args (final_field_count (slice_get P.classes c)) ts count)) (each_suits args (taken_by_new P (slice_get P.classes c)) s),
+      subst (λ z. Suited P mark slots result more (Some (type.Class c) ∷ z)) (sym (dropped_all args (final_field_count (slice_get P.classes c)) ts count)) r,
     )
 
     mutual

@@ -13,10 +13,10 @@ use Rattle.state.specs.Work as W
 use Rattle.state.specs.Work.{Action, Item, Ex, St, Act, Next}
 use Rattle.state.specs.States.{Frame, Thread, Ready, Running, Done, Faulted}
 use Rattle.reduction.specs.Leads.{Env, env_of, machine_memory, Sound, Paths, LeadsTo, MayLeadTo, with_slot, top_path, under_path, taken_paths, dropped_paths}
-use Rattle.reduction.specs.Fits.{SlotsAgree, Fresh, TidyE, TidyS, valued, stores, has_release, arity_of, finals_of, pushed, awaited}
+use Rattle.reduction.specs.Fits.{SlotsAgree, Fresh, TidyE, TidyS, valued, stores, has_release, arity_of, final_field_count, pushed, awaited}
 use Rattle.reduction.specs.Safe.{LeadEach, Owns, releases_in_work}
 use Rattle.levels.specs.SlotTypes.{slot_types}
-use Rattle.levels.specs.Walks.{Visit, Comes, Bad, lock_class, call_visits, expr_visits, sync_visits, visits}
+use Rattle.levels.specs.Walks.{LevelVisit, Comes, Bad, lock_class, call_visits, expr_visits, sync_visits, visits}
 use Rattle.levels.specs.Contexts.{MayRun, Context}
 
 -- there is an object, and its class has at most this level
@@ -36,7 +36,7 @@ pub record At (P : Program) (level : ℕ → ℕ) (objects : Address → Option 
   pub rest : C set under
 
 -- the calls of a walk are contexts, and none of its `synchronized` is bad
-pub record Fine (P : Program) (rel : ℕ → List PathData) (level : ℕ → ℕ) (vs : List Visit) : Type 0 where
+pub record Fine (P : Program) (rel : ℕ → List PathData) (level : ℕ → ℕ) (vs : List LevelVisit) : Type 0 where
   pub comes : (m : ℕ) (known : ℕ → Held) (u : ℕ) → Contains vs (Comes m known u) → (k : ℕ) → MayRun P k m → Context P rel level k (known k) u
   pub none_bad : (place c u : ℕ) → Contains vs (Bad place c u) → ⊥
 
@@ -60,7 +60,7 @@ module _ (P : Program) (rel : ℕ → List PathData) (level : ℕ → ℕ) (slot
       × ((later : Env) → ((y : ℕ) → stores s y ≡ false → later y ≡ env y) → G later [])
   RankedAct (W.Get f) more G env os = G env (get_path P f (top_path os) ∷ under_path os)
   RankedAct (W.Put f) more G env os = G env (under_path (under_path os))
-  RankedAct (W.New c) more G env os = G env (None ∷ dropped_paths (finals_of (slice_get P.classes c)) os)
+  RankedAct (W.New c) more G env os = G env (None ∷ dropped_paths (final_field_count (slice_get P.classes c)) os)
   RankedAct (W.Call m) more G env os = At P level objects outer env more (λ H under.
       Fine P rel level (call_visits P rel m (top_path (dropped_paths (arity_of (slice_get P.methods m)) os)) (taken_paths (arity_of (slice_get P.methods m)) [] os) H under))
       × G env (awaited P m ++ under_path (dropped_paths (arity_of (slice_get P.methods m)) os))

@@ -24,7 +24,7 @@ use Rattle.reduction.proofs.LeadLemmas.{grows_itself, each_top, each_under, each
 use Rattle.reduction.proofs.Actions.{address_is}
 use Rattle.reduction.proofs.Calls.{entry_sound}
 use Rattle.levels.specs.SlotTypes.{slot_types}
-use Rattle.levels.specs.Walks.{Visit, call_visits}
+use Rattle.levels.specs.Walks.{LevelVisit, call_visits}
 use Rattle.levels.proofs.Ranked.{Fine, RankedAct, Ranked, FramesRanked, AreCounted}
 use Rattle.levels.proofs.RankedSteps.{IsOrderedProgram, OutcomeRanked, fault_ranked}
 
@@ -45,7 +45,7 @@ module _ (P : Program) (rel : ℕ → List PathData) (level : ℕ → ℕ) (see 
         object_target m k None e = absurd (none-some k e)
         object_target m k (Some p) e = (p, e)
 
-        first_visit : (v : Visit) → Contains (v ∷ []) v
+        first_visit : (v : LevelVisit) → Contains (v ∷ []) v
         first_visit v = (0, omega arith, refl)
 
         same_awaited : (m k : ℕ) (called running : Method) → slice_get P.methods m ≡ Some called → slice_get P.methods k ≡ Some running → running.result ≡ called.result → awaited P k ≡ awaited P m

@@ -36,7 +36,7 @@ use Rattle.reduction.proofs.LeadLemmas.{grows_itself}
 use Rattle.reduction.proofs.LockActions.{not_both, one_of, one_more, one_less, none_left}
 use Rattle.levels.specs.SlotTypes.{SlotType, slot_types, IsMarked, Has}
 use Rattle.levels.specs.TypedStates.{IsTypedHeap, AreTypedSlots}
-use Rattle.levels.specs.Walks.{Visit, Bad, class_of_slot, last_type, lock_class, sync_visits, visits}
+use Rattle.levels.specs.Walks.{LevelVisit, Bad, class_of_slot, last_type, lock_class, sync_visits, visits}
 use Rattle.levels.proofs.Ranked.{IsUnder, Stands, Fine, RankedAct, Ranked, FramesRanked, AreCounted}
 use Rattle.levels.proofs.RankedSteps.{IsOrderedProgram, OutcomeRanked, fault_ranked, leads_top}
 
@@ -218,7 +218,7 @@ module _ (P : Program) (rel : ℕ → List PathData) (level : ℕ → ℕ) (see 
                   λ later agrees. after later (λ y other. agrees.kept y other),
                 )
 
-            above_walk : (b : Bool) (n : ℕ) (vs : List Visit) → Fine P rel level (if b then vs else Bad n class e ∷ vs) → Fine P rel level vs
+            above_walk : (b : Bool) (n : ℕ) (vs : List LevelVisit) → Fine P rel level (if b then vs else Bad n class e ∷ vs) → Fine P rel level vs
             above_walk true n vs fine = fine
             above_walk false n vs fine = absurd (fine.none_bad n class e (0, omega arith, refl))
 

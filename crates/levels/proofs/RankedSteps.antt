@@ -24,7 +24,7 @@ use Rattle.state.specs.States.{Frame, new_object}
 use Rattle.semantics.specs.Step.{Change, Nothing, FieldIs, ObjectIs, Starts, Shared, Move, Outcome, Moves, Absent, IsDone, HadFaulted, Waits, has_result, with_result, unless_final, object_class, run_of, run_of_class, value_at, access_kind, faults, goes_on, load, store, binary, and_then, or_else, choose, loop, get_value, get, put_value, put, new_address, new, return_to, start_run, start}
 use Rattle.semantics.specs.Changes.{objects_after, locks_after}
 use Rattle.reduction.specs.Leads.{Env, env_of, Memory, machine_memory, next_value, lead, Grows, Paths, LeadsTo, MayLeadTo, with_slot, top_path, under_path, dropped_paths}
-use Rattle.reduction.specs.Fits.{Fresh, TidyE, TidyS, valued, stores, has_release, count_release, finals_of, awaited}
+use Rattle.reduction.specs.Fits.{Fresh, TidyE, TidyS, valued, stores, has_release, count_release, final_field_count, awaited}
 use Rattle.reduction.specs.Safe.{LeadEach, Owns, releases_in_work, count_frames, held_count}
 use Rattle.reduction.proofs.LeadLemmas.{grows_itself, each_top, each_under, each_dropped, leads_from}
 use Rattle.reduction.proofs.SetLemmas.{sound_kept, extended_is}
@@ -33,7 +33,7 @@ use Rattle.reduction.proofs.Actions.{address_is}
 use Rattle.reduction.proofs.Counting.{none_count}
 use Rattle.reduction.proofs.PushedPaths.{on_pushed}
 use Rattle.levels.specs.SlotTypes.{slot_types}
-use Rattle.levels.specs.Walks.{Visit, Comes, Bad, expr_visits, visits, body_visits}
+use Rattle.levels.specs.Walks.{LevelVisit, Comes, Bad, expr_visits, visits, body_visits}
 use Rattle.levels.specs.Contexts.{MayRun, RunsFirst, Context, at_start}
 use Rattle.levels.proofs.Ranked.{At, Fine, RankedAct, Ranked, FramesRanked, RankedThread, AreCounted}
 
@@ -198,7 +198,7 @@ module _ (P : Program) (rel : ℕ → List PathData) (level : ℕ → ℕ) (see 
                 → (n : ℕ) × Fine P rel level (expr_visits P rel e H under ++ visits P rel level (slot_types method) s n H under)
             loop_fine e s H under first (n, second) = (n, both_fine (expr_visits P rel e H under) (visits P rel level (slot_types method) s n H under) first second)
               where
-                both_fine : (xs ys : List Visit) → Fine P rel level xs → Fine P rel level ys → Fine P rel level (xs ++ ys)
+                both_fine : (xs ys : List LevelVisit) → Fine P rel level xs → Fine P rel level ys → Fine P rel level (xs ++ ys)
                 both_fine xs ys first second = record {
                   comes = λ m known u has k runs. elim (Rattle.std.proofs.lemmas.List.Elements.Contains-append_cases xs ys (Comes m known u) has) as (λ _. Context P rel level k (known k) u) [
                     | inl a ↦ first.comes m known u a k runs
@@ -259,14 +259,14 @@ module _ (P : Program) (rel : ℕ → List PathData) (level : ℕ → ℕ) (see 
         put_ranked x g None = fault_ranked fault.Null
         put_ranked x g (Some a) = put_value_ranked x a g (slice_get P.fields x) refl (unless_final (slice_get P.fields x) (value_at P see t a x)) refl
 
-        pub new_ranked : (c : ℕ) → Walked rest (env_of f.slots) (None ∷ dropped_paths (finals_of (slice_get P.classes c)) os) → see.object_at (new_address P see t f below rest) ≡ None → (o : Option Class) → slice_get P.classes c ≡ o
+        pub new_ranked : (c : ℕ) → Walked rest (env_of f.slots) (None ∷ dropped_paths (final_field_count (slice_get P.classes c)) os) → see.object_at (new_address P see t f below rest) ≡ None → (o : Option Class) → slice_get P.classes c ≡ o
             → OutcomeRanked (new P see t f below rest c o)
         new_ranked c g free None at = fault_ranked fault.Null
         new_ranked c g free (Some class) at =
             go_with Both (value.Ref (new_address P see t f below rest) ∷ dropped (length class.finals) f.operands) rest (None ∷ dropped_paths (length class.finals) os)
             (ObjectIs (new_address P see t f below rest) (new_object P c (popped (length class.finals) [] f.operands)))
             (tt, each_dropped P (machine_memory P see.object_at) (env_of f.slots) (length class.finals) os f.operands known)
-            (subst (λ n. Walked rest (env_of f.slots) (None ∷ dropped_paths n os)) (ap finals_of at) g) (λ b. refl)
+            (subst (λ n. Walked rest (env_of f.slots) (None ∷ dropped_paths n os)) (ap final_field_count at) g) (λ b. refl)
             (made_grows P see.object_at (new_address P see t f below rest) _ free) refl tt
 
         -- Starts.

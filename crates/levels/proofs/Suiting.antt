@@ -14,7 +14,7 @@ use Rattle.core_program.specs.Typed.{parameters_in_scope, parameters, variables_
 use Rattle.core_program.proofs.Running.{itself_or_over}
 use Rattle.reduction.proofs.Scopes.{stmt_tidy}
 use Rattle.reduction.proofs.Roots.{parameters_scope}
-use Rattle.levels.specs.SlotTypes.{SlotType, local_types, local_types_each, slot_types, method_result, taken_by_method, taken_by_new, expression_type, AreMarked, IsMarked, Suits}
+use Rattle.levels.specs.SlotTypes.{SlotType, local_types, local_types_each, slot_types, result_slot_type, taken_by_method, taken_by_new, expression_type, AreMarked, IsMarked, Suits}
 use Rattle.levels.specs.Suited.{SuitsResult, SuitedE, SuitedEach, SuitedS, SuitedBlock}
 use Rattle.levels.proofs.ClassMarks.{kind_marked, target_marked}
 use Rattle.levels.proofs.TypedChanges.{IsSuitedProgram}
@@ -102,7 +102,7 @@ module _ (P : Program) (mark : ℕ → ℕ) (marked : AreMarked P mark) where
       type_suits (AndE a b) T h = subst (λ z. Suits mark (expression_type P slots b) (as_type z)) (sym h.2) (type_suits b boolean_type h.1)
       type_suits (OrE a b) T h = subst (λ z. Suits mark (expression_type P slots b) (as_type z)) (sym h.2) (type_suits b boolean_type h.1)
       type_suits (GetE e f) T (field, is, receives, ty) = equal_suits (field_type (slice_get P.fields f)) T (ValueT field.ty) ty (ap field_type is)
-      type_suits (CallE e m args) T (method, is, receives, each, result) = equal_suits (method_result (slice_get P.methods m)) T (result_type method.result) result (ap method_result is ∙ sym (result_as method.result))
+      type_suits (CallE e m args) T (method, is, receives, each, result) = equal_suits (result_slot_type (slice_get P.methods m)) T (result_type method.result) result (ap result_slot_type is ∙ sym (result_as method.result))
       type_suits (NewE c args) T (made, is, each, ty) = equal_suits (Some (type.Class c)) T (class_type c) ty refl
 
       fit_suits : (e : Expr) (t : CoreType) → HasFit P class scope e t → Suits mark (expression_type P slots e) (Some t)

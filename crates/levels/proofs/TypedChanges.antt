@@ -18,7 +18,7 @@ use Rattle.state.specs.Memory.{Object}
 use Rattle.state.specs.States.{Frame, Thread, Ready, Running, Done, Faulted}
 use Rattle.semantics.specs.Step.{Change, Starts, new}
 use Rattle.reduction.specs.Fits.{TidyS}
-use Rattle.levels.specs.SlotTypes.{SlotType, slot_types, method_result, Has}
+use Rattle.levels.specs.SlotTypes.{SlotType, slot_types, result_slot_type, Has}
 use Rattle.levels.specs.Suited.{IsPlain, brought, SuitsResult, SuitedS}
 use Rattle.levels.specs.TypedStates.{Stays, AreTypedFrames, IsTypedStart, IsTypedThread}
 use Rattle.levels.proofs.Heaps.{each_stays, slots_stay}
@@ -53,7 +53,7 @@ module _ (P : Program) (mark : ℕ → ℕ) where
         operands = each_stays mark old new stays f.0.types g.operands f.0.operands;
         suited = f.0.suited;
       },
-      frames_stay fs (brought (method_result (slice_get P.methods g.method))) f.1,
+      frames_stay fs (brought (result_slot_type (slice_get P.methods g.method))) f.1,
     )
 
     pub start_stays : (a : Address) (m : ℕ) → IsTypedStart P mark old a m → IsTypedStart P mark new a m

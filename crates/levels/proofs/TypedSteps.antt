@@ -22,8 +22,8 @@ use Rattle.state.specs.Work.{Action, Item, Ex, St, Act, Next, unfolded}
 use Rattle.state.specs.States.{Frame, Thread, Ready, Running, Done, Faulted, new_object}
 use Rattle.semantics.specs.Step.{Change, Nothing, FieldIs, ObjectIs, LockIs, Prints, Starts, Shared, Move, Outcome, Moves, Absent, IsDone, HadFaulted, Waits, most_frames, has_result, with_result, unless_final, object_class, run_of, run_of_class, target_at, value_at, access_kind, faults, goes_on, load, store, binary, and_then, or_else, choose, loop, get_value, get, put_value, put, new_address, new, enter, enter_some, dispatch, call_on, call, takes, take_held, take, acquire, release_held, release, return_to, start_run, start, act, act_next, enter_first, turn}
 use Rattle.semantics.specs.Changes.{objects_after}
-use Rattle.reduction.specs.Fits.{arity_of, finals_of}
-use Rattle.levels.specs.SlotTypes.{SlotType, slot_types, method_result, taken_by_method, taken_by_new, expression_type, Suits, SuitEach, Has, HasEach, top_type, under_types, taken_types, dropped_types}
+use Rattle.reduction.specs.Fits.{arity_of, final_field_count}
+use Rattle.levels.specs.SlotTypes.{SlotType, slot_types, result_slot_type, taken_by_method, taken_by_new, expression_type, Suits, SuitEach, Has, HasEach, top_type, under_types, taken_types, dropped_types}
 use Rattle.levels.specs.Suited.{brought, SuitsResult, SuitedAct, Suited, SuitedOpens}
 use Rattle.levels.specs.TypedStates.{Stays, IsTypedHeap, AreTypedSlots, IsTypedFrame, AreTypedFrames, IsTypedStart, IsTypedThread}
 use Rattle.levels.proofs.OpeningTypes.{unfolds, on_pushed}
@@ -48,7 +48,7 @@ module _ (P : Program) (mark : ℕ → ℕ) where
 
     module _ (program : IsSuitedProgram P mark) (heap : IsTypedHeap P mark see.object_at) (f : Frame) (below : List Frame) (rest : List Item) (method : Method) (is : slice_get P.methods f.method ≡ Some method)
         (slots : AreTypedSlots P mark see.object_at (slot_types method) f.slots) (ts : List SlotType) (known : HasEach mark see.object_at ts f.operands)
-        (further : AreTypedFrames P mark see.object_at below (brought (method_result (slice_get P.methods f.method)))) where
+        (further : AreTypedFrames P mark see.object_at below (brought (result_slot_type (slice_get P.methods f.method)))) where
       abbrev G : List SlotType → Type 0
       G = Suited P mark (slot_types method) method.result rest
 
@@ -67,7 +67,7 @@ module _ (P : Program) (mark : ℕ → ℕ) where
             operands = has;
             suited = suited;
           },
-          frames_stay P mark see.object_at (objects_after change see.object_at) stays below (brought (method_result (slice_get P.methods f.method))) further,
+          frames_stay P mark see.object_at (objects_after change see.object_at) stays below (brought (result_slot_type (slice_get P.methods f.method))) further,
         );
         heap = heap2;
         stays = stays;
@@ -176,7 +176,7 @@ module _ (P : Program) (mark : ℕ → ℕ) where
           let values = popped n [] f.operands in
           let made = new_object P c values in
           let stays = made_stays mark P see.object_at (new_address P see t f below rest) (new_object P c (popped (length class.finals) [] f.operands)) free in
-          let arity = ap finals_of at in
+          let arity = ap final_field_count at in
           let suits = subst (λ k. SuitEach mark (taken_types k [] ts) (taken_by_new P (slice_get P.classes c))) arity s.0 in
           let arguments = each_suits mark see.object_at (taken_types (length class.finals) [] ts) (taken_by_new P (slice_get P.classes c)) (popped (length class.finals) [] f.operands) suits (taken_has mark see.object_at (length class.finals) ts [] f.operands [] known tt) in
           go Both (value.Ref (new_address P see t f below rest) ∷ dropped (length class.finals) f.operands) rest (ObjectIs (new_address P see t f below rest) (new_object P c (popped (length class.finals) [] f.operands)))
@@ -222,8 +222,8 @@ module _ (P : Program) (mark : ℕ → ℕ) where
                   slots = slots;
                   types = under_types (dropped_types (length called.params) ts);
                   operands = under_has mark see.object_at (dropped_types (length called.params) ts) (dropped (length called.params) f.operands) (dropped_has mark see.object_at (length called.params) ts f.operands known);
-                  suited = subst (λ r. G (brought r ++ under_types (dropped_types (length called.params) ts))) (ap method_result there ∙ sym result ∙ sym (ap method_result at))
-                      (subst (λ n. G (brought (method_result (slice_get P.methods m)) ++ under_types (dropped_types n ts))) arity s.1);
+                  suited = subst (λ r. G (brought r ++ under_types (dropped_types (length called.params) ts))) (ap result_slot_type there ∙ sym result ∙ sym (ap result_slot_type at))
+                      (subst (λ n. G (brought (result_slot_type (slice_get P.methods m)) ++ under_types (dropped_types n ts))) arity s.1);
                 },
                 further,
               ),
@@ -307,7 +307,7 @@ module _ (P : Program) (mark : ℕ → ℕ) where
       with_result_has (Some ty) v types operands s same has =
           (suits_value mark see.object_at (top_type ts) (Some ty) v s (subst (Has mark see.object_at (top_type ts)) (sym same) (top_has mark see.object_at ts f.operands known)), has)
 
-      return_typed : SuitsResult mark method.result ts → (fs : List Frame) → AreTypedFrames P mark see.object_at fs (brought (method_result (slice_get P.methods f.method))) → OutcomeTyped (return_to P see t f below rest fs)
+      return_typed : SuitsResult mark method.result ts → (fs : List Frame) → AreTypedFrames P mark see.object_at fs (brought (result_slot_type (slice_get P.methods f.method))) → OutcomeTyped (return_to P see t f below rest fs)
       return_typed s [] typed = record { thread = tt; heap = heap; stays = stays_itself see.object_at; started = tt }
       return_typed s (g ∷ fs) typed = record {
         thread = (
@@ -315,8 +315,8 @@ module _ (P : Program) (mark : ℕ → ℕ) where
             method = typed.0.method;
             is = typed.0.is;
             slots = typed.0.slots;
-            types = brought (method_result (slice_get P.methods f.method)) ++ typed.0.types;
-            operands = subst (λ o. HasEach mark see.object_at (brought (method_result o) ++ typed.0.types) (with_result (has_result o) (top f.operands) g.operands)) (sym is)
+            types = brought (result_slot_type (slice_get P.methods f.method)) ++ typed.0.types;
+            operands = subst (λ o. HasEach mark see.object_at (brought (result_slot_type o) ++ typed.0.types) (with_result (has_result o) (top f.operands) g.operands)) (sym is)
                 (with_result_has method.result (top f.operands) typed.0.types g.operands s refl typed.0.operands);
             suited = typed.0.suited;
           },
@@ -349,7 +349,7 @@ module _ (P : Program) (mark : ℕ → ℕ) where
       act_typed W.Start free s = start_typed s (address_of (top f.operands))
 
     module _ (program : IsSuitedProgram P mark) (heap : IsTypedHeap P mark see.object_at) (free : see.object_at (record { thread = t; count = see.made }) ≡ None) where
-      next_typed : (f : Frame) (below : List Frame) (typed : IsTypedFrame P mark see.object_at f []) → AreTypedFrames P mark see.object_at below (brought (method_result (slice_get P.methods f.method))) → (o : Option Next)
+      next_typed : (f : Frame) (below : List Frame) (typed : IsTypedFrame P mark see.object_at f []) → AreTypedFrames P mark see.object_at below (brought (result_slot_type (slice_get P.methods f.method))) → (o : Option Next)
           → SuitedOpens P mark (slot_types typed.method) typed.method.result o typed.types → OutcomeTyped (act_next P see t f below o)
       next_typed f below typed further None s = record { thread = tt; heap = heap; stays = stays_itself see.object_at; started = tt }
       next_typed f below typed further (Some next) s = act_typed program heap f below next.1 typed.method typed.is typed.slots typed.types typed.operands further next.0 free s

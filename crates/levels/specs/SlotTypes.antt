@@ -37,9 +37,9 @@ abbrev pub slot_types : Method → List CoreType
 slot_types m = type.Class m.class ∷ (parameter_types m ++ local_types m.body)
 
 -- what a method gives, where it is there and has a result
-abbrev pub method_result : Option Method → SlotType
-method_result None = None
-method_result (Some m) = m.result
+abbrev pub result_slot_type : Option Method → SlotType
+result_slot_type None = None
+result_slot_type (Some m) = m.result
 
 -- the types of the arguments that a method takes
 abbrev pub taken_by_method : Option Method → List CoreType
@@ -58,7 +58,7 @@ expression_type P slots (VarE x is_final ty) = slice_get slots x
 expression_type P slots (AndE a b) = expression_type P slots b
 expression_type P slots (OrE a b) = expression_type P slots b
 expression_type P slots (GetE e f) = field_type (slice_get P.fields f)
-expression_type P slots (CallE e m args) = method_result (slice_get P.methods m)
+expression_type P slots (CallE e m args) = result_slot_type (slice_get P.methods m)
 expression_type P slots (NewE c args) = Some (type.Class c)
 expression_type P slots _ = None
 

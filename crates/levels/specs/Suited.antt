@@ -9,8 +9,8 @@ use Rattle.state.specs.declared.value.Value.{Value}
 use Rattle.state.specs.declared.value.Value.TheVariants as value
 use Rattle.state.specs.Work as W
 use Rattle.state.specs.Work.{Action, Item, Ex, St, Act, Next}
-use Rattle.reduction.specs.Fits.{arity_of, finals_of, valued, TidyE, TidyS}
-use Rattle.levels.specs.SlotTypes.{SlotType, method_result, taken_by_method, taken_by_new, expression_type, Suits, SuitEach, top_type, under_types, taken_types, dropped_types}
+use Rattle.reduction.specs.Fits.{arity_of, final_field_count, valued, TidyE, TidyS}
+use Rattle.levels.specs.SlotTypes.{SlotType, result_slot_type, taken_by_method, taken_by_new, expression_type, Suits, SuitEach, top_type, under_types, taken_types, dropped_types}
 
 -- the value is no reference
 abbrev pub IsPlain : Value → Type 0
@@ -90,10 +90,10 @@ module _ (P : Program) (mark : ℕ → ℕ) (slots : List CoreType) where
     SuitedAct (W.Loop c s) G ts = (under_types ts ≡ []) × (valued P c ≡ true) × TidyE P c × SuitedE c × TidyS P s × SuitedS s × G []
     SuitedAct (W.Get f) G ts = G (field_type (slice_get P.fields f) ∷ under_types ts)
     SuitedAct (W.Put f) G ts = Suits mark (top_type ts) (field_type (slice_get P.fields f)) × G (under_types (under_types ts))
-    SuitedAct (W.New c) G ts = SuitEach mark (taken_types (finals_of (slice_get P.classes c)) [] ts) (taken_by_new P (slice_get P.classes c))
-        × G (Some (type.Class c) ∷ dropped_types (finals_of (slice_get P.classes c)) ts)
+    SuitedAct (W.New c) G ts = SuitEach mark (taken_types (final_field_count (slice_get P.classes c)) [] ts) (taken_by_new P (slice_get P.classes c))
+        × G (Some (type.Class c) ∷ dropped_types (final_field_count (slice_get P.classes c)) ts)
     SuitedAct (W.Call m) G ts = SuitEach mark (taken_types (arity_of (slice_get P.methods m)) [] ts) (taken_by_method (slice_get P.methods m))
-        × G (brought (method_result (slice_get P.methods m)) ++ under_types (dropped_types (arity_of (slice_get P.methods m)) ts))
+        × G (brought (result_slot_type (slice_get P.methods m)) ++ under_types (dropped_types (arity_of (slice_get P.methods m)) ts))
     SuitedAct (W.Acquire s) G ts = (under_types ts ≡ []) × TidyS P s × SuitedS s × G []
     SuitedAct (W.Release a) G ts = G ts
     SuitedAct W.Ret G ts = SuitsResult mark result ts

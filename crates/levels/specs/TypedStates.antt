@@ -7,7 +7,7 @@ use Rattle.state.specs.declared.value.Address.{Address}
 use Rattle.state.specs.declared.value.Value.{Value}
 use Rattle.state.specs.Memory.{Object, field_value}
 use Rattle.state.specs.States.{Frame, Thread, Ready, Running, State}
-use Rattle.levels.specs.SlotTypes.{SlotType, slot_types, method_result, Has, HasEach}
+use Rattle.levels.specs.SlotTypes.{SlotType, slot_types, result_slot_type, Has, HasEach}
 use Rattle.levels.specs.Suited.{brought, Suited}
 
 -- objects keep their classes
@@ -36,7 +36,7 @@ module _ (P : Program) (mark : ℕ → ℕ) where
   -- frames, the innermost first; a frame further out waits for the result of the one before it
   abbrev pub AreTypedFrames : (Address → Option Object) → List Frame → List SlotType → Type 0
   AreTypedFrames objects [] coming = Unit {0}
-  AreTypedFrames objects (f ∷ fs) coming = IsTypedFrame objects f coming × AreTypedFrames objects fs (brought (method_result (slice_get P.methods f.method)))
+  AreTypedFrames objects (f ∷ fs) coming = IsTypedFrame objects f coming × AreTypedFrames objects fs (brought (result_slot_type (slice_get P.methods f.method)))
 
   -- a thread is ready to run a method without parameters on an object of the method's class
   pub record IsTypedStart (objects : Address → Option Object) (a : Address) (m : ℕ) : Type 0 where

@@ -13,11 +13,11 @@ use Rattle.rules.specs.Effect.{held_under, after_stmt}
 use Rattle.levels.specs.SlotTypes.{SlotType, slot_types}
 
 -- what a walk comes to
-pub data Visit : Type 0 where
+pub data LevelVisit : Type 0 where
   -- a call of this method, with what is held there as each method that may run knows it, under this level
-  Comes : ℕ → (ℕ → Held) → ℕ → Visit
+  Comes : ℕ → (ℕ → Held) → ℕ → LevelVisit
   -- a `synchronized` on a lock of this class, which isn't above the walk's level; its place among those of the body, in written order
-  Bad : (place class under : ℕ) → Visit
+  Bad : (place class under : ℕ) → LevelVisit
 
 -- the level of a class in a list; 0 for one that has none
 abbrev pub level_in : List ℕ → ℕ → ℕ
@@ -55,12 +55,12 @@ abbrev mutual
 -- a program with its relevant paths
 module _ (P : Program) (rel : ℕ → List PathData) where
   -- a call of a method on a receiver with arguments that have these paths or none
-  abbrev pub call_visits : ℕ → Option PathData → List (Option PathData) → Held → ℕ → List Visit
+  abbrev pub call_visits : ℕ → Option PathData → List (Option PathData) → Held → ℕ → List LevelVisit
   call_visits m receiver args H under = Comes m (λ k. held_under (rel k) receiver args H) under ∷ []
 
   abbrev mutual
     -- the parts of an expression, at a set and under a level
-    pub expr_visits : Expr → Held → ℕ → List Visit
+    pub expr_visits : Expr → Held → ℕ → List LevelVisit
     expr_visits (NotE e) H under = expr_visits e H under
     expr_visits (NegE e) H under = expr_visits e H under
     expr_visits (BinaryE op a b) H under = expr_visits a H under ++ expr_visits b H under
@@ -72,7 +72,7 @@ module _ (P : Program) (rel : ℕ → List PathData) where
     expr_visits _ H under = []
 
     -- the parts of some arguments, one argument after the other
-    pub exprs_visits : Exprs → Held → ℕ → List Visit
+    pub exprs_visits : Exprs → Held → ℕ → List LevelVisit
     exprs_visits no_exprs H under = []
     exprs_visits (and_expr e es) H under = expr_visits e H under ++ exprs_visits es H under
 
@@ -80,13 +80,13 @@ module _ (P : Program) (rel : ℕ → List PathData) where
   module _ (level : ℕ → ℕ) (slots : List CoreType) where
     -- a `synchronized` on a lock of this class at this place: the part as it is where the lock is held already; else the part with the lock taken,
     -- after a bad one where the lock isn't above the walk's level
-    abbrev pub sync_visits : (held : Bool) → (place class under : ℕ) → (as_it_is taken : List Visit) → List Visit
+    abbrev pub sync_visits : (held : Bool) → (place class under : ℕ) → (as_it_is taken : List LevelVisit) → List LevelVisit
     sync_visits true place class under as_it_is taken = as_it_is
     sync_visits false place class under as_it_is taken = if nat_lt under (level class) then taken else Bad place class under ∷ taken
 
     abbrev mutual
       -- the parts of a statement, whose first `synchronized` has this place
-      pub visits : Stmt → ℕ → Held → ℕ → List Visit
+      pub visits : Stmt → ℕ → Held → ℕ → List LevelVisit
       visits EmptyS place H under = []
       visits (BlockS ss) place H under = block_visits ss place H under
       visits (LocalS x is_final ty e) place H under = expr_visits e H under
@@ -103,10 +103,10 @@ module _ (P : Program) (rel : ℕ → List PathData) where
       visits (StartS e) place H under = expr_visits e H under
 
       -- the statements of a block, each at the set that those before it leave
-      pub block_visits : Stmts → ℕ → Held → ℕ → List Visit
+      pub block_visits : Stmts → ℕ → Held → ℕ → List LevelVisit
       block_visits no_stmts place H under = []
       block_visits (and_stmt s ss) place H under = visits s place H under ++ block_visits ss (place + syncs_in s) (after_stmt P s H) under
 
   -- the walk through a method's body, at a set and under a level
-  abbrev pub body_visits : (ℕ → ℕ) → Method → Held → ℕ → List Visit
+  abbrev pub body_visits : (ℕ → ℕ) → Method → Held → ℕ → List LevelVisit
   body_visits level method H under = visits level (slot_types method) method.body 0 H under

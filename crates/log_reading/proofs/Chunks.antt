@@ -5,10 +5,10 @@ use Rattle.std.proofs.lemmas.List.{take-append-drop, nil_from_length}
 use Rattle.std.proofs.lemmas.Grind.{common_steps}
 use Rattle.edge.specs.Pieces.{GivesFrom}
 use Rattle.logs.specs.Logs.{Guard}
-use Rattle.log_reading.specs.Reading.{HasRead, HasReadWhole, HasStopped}
+use Rattle.log_reading.specs.Reading.{HasReadSoFar, HasReadWhole, HasStoppedInFile}
 use Rattle.logs.specs.Stops.{IsEnd}
 use Rattle.logs.specs.declared.walk.WalkEnd.{WalkEnd}
-use Rattle.logs.specs.Walks.{Stand, Walked, Stands, front, walked}
+use Rattle.logs.specs.Walks.{Stand, WalkedTo, Stands, front, walked}
 use Rattle.logs.proofs.Walking.{walked_on}
 
 module _ (guard : ℕ → Guard) where
@@ -16,7 +16,7 @@ module _ (guard : ℕ → Guard) where
   fronts_none None = tt
   fronts_none (Some file) = (file, refl)
 
-  pub read_none : (told : Option (List ℕ)) → HasRead guard told 0 front
+  pub read_none : (told : Option (List ℕ)) → HasReadSoFar guard told 0 front
   read_none told = record { bytes = []; long = refl; leads = refl; fronts = fronts_none told }
 
   -- what was given stands behind what was read before
@@ -32,8 +32,8 @@ module _ (guard : ℕ → Guard) where
       let piece = behind file bytes is.0 chunk at n is.1 long given in
       (drop n is.0, is.1 ∙ ap (λ r. bytes ++ r) (sym (take-append-drop n is.0)) ∙ sym (append_assoc bytes (take n is.0) (drop n is.0)) ∙ ap (λ r. (bytes ++ r) ++ drop n is.0) (sym piece))
 
-  pub read_more : (told now : Option (List ℕ)) (at n : ℕ) (s m : Stand) (chunk : List ℕ) → HasRead guard told at s → now ≡ told → IfSome now (GivesFrom at n chunk) → n ≤ length chunk
-      → walked guard s (take n chunk) ≡ Stands m → HasRead guard told (at + n) m
+  pub read_more : (told now : Option (List ℕ)) (at n : ℕ) (s m : Stand) (chunk : List ℕ) → HasReadSoFar guard told at s → now ≡ told → IfSome now (GivesFrom at n chunk) → n ≤ length chunk
+      → walked guard s (take n chunk) ≡ Stands m → HasReadSoFar guard told (at + n) m
   read_more told now at n s m chunk before same gives within leads = record {
     bytes = before.bytes ++ take n chunk;
     long = let long = before.long in grind (arith, common_steps);
@@ -50,7 +50,7 @@ module _ (guard : ℕ → Guard) where
       let parts : length file ≡ length bytes + length is.0 = ap length is.1 ∙ length-append bytes is.0 in
       is.1 ∙ ap (λ r. bytes ++ r) (nil_from_length is.0 (omega (arith, past, parts, long))) ∙ append-nil bytes
 
-  pub read_whole : (told now : Option (List ℕ)) (limit at n : ℕ) (s : Stand) (chunk : List ℕ) → HasRead guard told at s → at ≤ limit → now ≡ told → n ≡ 0 → 0 < length chunk
+  pub read_whole : (told now : Option (List ℕ)) (limit at n : ℕ) (s : Stand) (chunk : List ℕ) → HasReadSoFar guard told at s → at ≤ limit → now ≡ told → n ≡ 0 → 0 < length chunk
       → IfSome now (GivesFrom at n chunk) → HasReadWhole guard told limit at s
   read_whole told now limit at n s chunk before within same none some gives = record {
     bytes = before.bytes;
@@ -60,8 +60,8 @@ module _ (guard : ℕ → Guard) where
     its = its_whole told now before.bytes chunk at n same before.long none some gives before.fronts;
   }
 
-  stopped : (told now : Option (List ℕ)) (at n : ℕ) (s : Stand) (w : Walked) (chunk : List ℕ) → HasRead guard told at s → now ≡ told → IfSome now (GivesFrom at n chunk)
-      → walked guard s (take n chunk) ≡ w → HasStopped guard told w
+  stopped : (told now : Option (List ℕ)) (at n : ℕ) (s : Stand) (w : WalkedTo) (chunk : List ℕ) → HasReadSoFar guard told at s → now ≡ told → IfSome now (GivesFrom at n chunk)
+      → walked guard s (take n chunk) ≡ w → HasStoppedInFile guard told w
   stopped told now at n s w chunk before same gives leads = record {
     bytes = before.bytes ++ take n chunk;
     leads = walked_on guard front s before.bytes (take n chunk) before.leads ∙ leads;
@@ -69,8 +69,8 @@ module _ (guard : ℕ → Guard) where
   }
 
   -- how the walk of a piece more ended
-  pub stopped_so : (told now : Option (List ℕ)) (at n : ℕ) (s m : Stand) (end : WalkEnd) (chunk : List ℕ) → HasRead guard told at s → now ≡ told → IfSome now (GivesFrom at n chunk)
-      → IsEnd m (walked guard s (take n chunk)) end → (w : Walked) × IsEnd m w end × HasStopped guard told w
+  pub stopped_so : (told now : Option (List ℕ)) (at n : ℕ) (s m : Stand) (end : WalkEnd) (chunk : List ℕ) → HasReadSoFar guard told at s → now ≡ told → IfSome now (GivesFrom at n chunk)
+      → IsEnd m (walked guard s (take n chunk)) end → (w : WalkedTo) × IsEnd m w end × HasStoppedInFile guard told w
   stopped_so told now at n s m end chunk before same gives ends =
       (walked guard s (take n chunk), ends, stopped told now at n s (walked guard s (take n chunk)) chunk before same gives refl)
 
@@ -78,5 +78,5 @@ module _ (guard : ℕ → Guard) where
   over_by None bytes limit over is = tt
   over_by (Some file) bytes limit over is = let parts : length file ≡ length bytes + length is.0 = ap length is.1 ∙ length-append bytes is.0 in omega (arith, parts, over)
 
-  pub read_over : (told : Option (List ℕ)) (limit at : ℕ) (s : Stand) → HasRead guard told at s → limit < at → IfSome told (λ file. limit < length file)
+  pub read_over : (told : Option (List ℕ)) (limit at : ℕ) (s : Stand) → HasReadSoFar guard told at s → limit < at → IfSome told (λ file. limit < length file)
   read_over told limit at s before over = over_by told before.bytes limit (let long = before.long in omega (arith, long, over)) before.fronts

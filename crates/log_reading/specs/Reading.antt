@@ -5,10 +5,10 @@ use Rattle.logs.specs.Logs.{Guard}
 use Rattle.log_reading.specs.declared.reading.ReadEnd.{ReadEnd}
 use Rattle.log_reading.specs.declared.reading.ReadEnd.TheVariants as ends
 use Rattle.logs.specs.Stops.{IsEnd}
-use Rattle.logs.specs.Walks.{Stand, Walked, Stands, walked, front}
+use Rattle.logs.specs.Walks.{Stand, WalkedTo, Stands, walked, front}
 
 -- so many bytes were read, and led here; where the file is told, they are its first
-pub record HasRead (guard : ℕ → Guard) (told : Option (List ℕ)) (at : ℕ) (stand : Stand) : Type 0 where
+pub record HasReadSoFar (guard : ℕ → Guard) (told : Option (List ℕ)) (at : ℕ) (stand : Stand) : Type 0 where
   pub bytes : List ℕ
   pub long : length bytes ≡ at
   pub leads : walked guard front bytes ≡ Stands stand
@@ -23,7 +23,7 @@ pub record HasReadWhole (guard : ℕ → Guard) (told : Option (List ℕ)) (limi
   pub its : IfSome told (λ file. file ≡ bytes)
 
 -- a judge stopped so in a file
-pub record HasStopped (guard : ℕ → Guard) (told : Option (List ℕ)) (end : Walked) : Type 0 where
+pub record HasStoppedInFile (guard : ℕ → Guard) (told : Option (List ℕ)) (end : WalkedTo) : Type 0 where
   pub bytes : List ℕ
   pub leads : walked guard front bytes ≡ end
   pub fronts : IfSome told (λ file. (rest : List ℕ) × (file ≡ bytes ++ rest))
@@ -32,4 +32,4 @@ pub record HasStopped (guard : ℕ → Guard) (told : Option (List ℕ)) (end : 
 abbrev pub IsReadEnd : (ℕ → Guard) → Option (List ℕ) → (limit before now : ℕ) → Stand → ReadEnd → Type 0
 IsReadEnd guard told limit before now stand ends.Fault = Rose before now
 IsReadEnd guard told limit before now stand ends.TooLarge = IfSome told (λ file. limit < length file)
-IsReadEnd guard told limit before now stand (ends.Walk end) = (w : Walked) × IsEnd stand w end × HasStopped guard told w
+IsReadEnd guard told limit before now stand (ends.Walk end) = (w : WalkedTo) × IsEnd stand w end × HasStoppedInFile guard told w

@@ -6,8 +6,8 @@ use Rattle.state.specs.declared.value.StepKind.{StepKind}
 use Rattle.state.specs.declared.value.StepKind.TheVariants.{Both, Right, Left, Other, Bare}
 use Rattle.semantics.specs.Words.{moves_right, moves_left}
 use Rattle.logs.specs.Events.{Event, Take, Give, Access, Start, Join, Stop, Begin, End}
-use Rattle.logs.specs.Logs.{Guard, ByLock, ByThread, Unguarded, holds_in_log, access_kind, kind_at, was_there}
-use Rattle.logs.specs.Memory.{LogHold, Absent, Present, Ended, SharedCell, AtLock, AtPlace, AtThread, Content, Lock, Value, Thread, eq_cell, Cells, put}
+use Rattle.logs.specs.Logs.{Guard, ByLock, ByThread, Unguarded, holds_in_log, guarded_access_kind, kind_at, was_there}
+use Rattle.logs.specs.Memory.{LogHold, Absent, Present, Ended, SharedCell, AtLock, AtPlace, AtThread, Content, Lock, Value, Thread, eq_cell, Cells, content_put}
 use Rattle.logs.specs.Turns.{cell_of, Turn}
 use Rattle.logs.proofs.Cells.{same_cell, itself, not_true, put_here, put_there, put_put}
 use Rattle.logs.proofs.Sorts.{Gripped, Sort, of_lock, of_place, of_start, of_join, of_own}
@@ -39,7 +39,7 @@ module _ (t u : ℕ) (other : t ≢ u) where
   holds_sort kind l c d (AtThread v) g is (of_join a b k) = absurd cc
   holds_sort kind l c d _ g is (of_own a b) = absurd cc
 
-  pub holds_kept : (kind l : StepKind) (d : Content) (cell : SharedCell) (cells : Cells) (g : ℕ) → Sort u kind l (cells cell) d cell → holds_in_log t (put cell d cells (AtLock g)) ≡ holds_in_log t (cells (AtLock g))
+  pub holds_kept : (kind l : StepKind) (d : Content) (cell : SharedCell) (cells : Cells) (g : ℕ) → Sort u kind l (cells cell) d cell → holds_in_log t (content_put cell d cells (AtLock g)) ≡ holds_in_log t (cells (AtLock g))
   holds_kept kind l d cell cells g sort = by (eq_cell cell (AtLock g)) refl
     where
       by : (b : Bool) → eq_cell cell (AtLock g) ≡ b → holds_in_log t (if b then d else cells (AtLock g)) ≡ holds_in_log t (cells (AtLock g))
@@ -47,12 +47,12 @@ module _ (t u : ℕ) (other : t ≢ u) where
       by false e = refl
 
   -- so an access of t is of the same kind before and after it
-  access_kept : (kind l : StepKind) (d : Content) (cell : SharedCell) (cells : Cells) (g : Guard) → Sort u kind l (cells cell) d cell → access_kind g (put cell d cells) t ≡ access_kind g cells t
+  access_kept : (kind l : StepKind) (d : Content) (cell : SharedCell) (cells : Cells) (g : Guard) → Sort u kind l (cells cell) d cell → guarded_access_kind g (content_put cell d cells) t ≡ guarded_access_kind g cells t
   access_kept kind l d cell cells (ByLock g) sort = ap (λ (b : Bool). if b then Both else Bare) (holds_kept kind l d cell cells g sort)
   access_kept kind l d cell cells (ByThread v) sort = refl
   access_kept kind l d cell cells Unguarded sort = refl
 
-  pub kind_kept : (guard : ℕ → Guard) (kind l : StepKind) (d : Content) (cell : SharedCell) (cells : Cells) → Sort u kind l (cells cell) d cell → (e : Event) → kind_at guard (put cell d cells) t e ≡ kind_at guard cells t e
+  pub kind_kept : (guard : ℕ → Guard) (kind l : StepKind) (d : Content) (cell : SharedCell) (cells : Cells) → Sort u kind l (cells cell) d cell → (e : Event) → kind_at guard (content_put cell d cells) t e ≡ kind_at guard cells t e
   kind_kept guard kind l d cell cells sort (Take m) = refl
   kind_kept guard kind l d cell cells sort (Give m) = refl
   kind_kept guard kind l d cell cells sort (Access p seen left) = access_kept kind l d cell cells (guard p) sort
@@ -70,7 +70,7 @@ module _ (t u : ℕ) (other : t ≢ u) where
   present_sort kind l c d (AtThread v) is at (of_join a b k) = let e : Thread Ended ≡ Thread Present = sym a ∙ at in absurd cc
   present_sort kind l c d _ is at (of_own a b) = let e : u ≡ t = cc in other (sym e)
 
-  pub present_kept : (kind l : StepKind) (d : Content) (cell : SharedCell) (cells : Cells) → Sort u kind l (cells cell) d cell → cells (AtThread t) ≡ Thread Present → put cell d cells (AtThread t) ≡ Thread Present
+  pub present_kept : (kind l : StepKind) (d : Content) (cell : SharedCell) (cells : Cells) → Sort u kind l (cells cell) d cell → cells (AtThread t) ≡ Thread Present → content_put cell d cells (AtThread t) ≡ Thread Present
   present_kept kind l d cell cells sort at = put_there cell (AtThread t) d cells (λ e. absurd (present_sort kind l (cells cell) d cell e (ap cells e ∙ at) sort)) ∙ at
 
   -- a thread that steps next was there before, unless it was started in between
@@ -82,12 +82,12 @@ module _ (t u : ℕ) (other : t ≢ u) where
   before_sort kind k l c d (AtThread v) is at p (of_join a b z) = let e : Thread Ended ≡ Thread Present = sym b ∙ at in absurd cc
   before_sort kind k l c d _ is at p (of_own a b) = let e : t ≡ u = cc in other e
 
-  pub present_before : (kind k l : StepKind) (d : Content) (cell : SharedCell) (cells : Cells) → Sort t kind k (cells cell) d cell → MayPass k l (cells (AtThread u)) → put cell d cells (AtThread u) ≡ Thread Present → cells (AtThread u) ≡ Thread Present
+  pub present_before : (kind k l : StepKind) (d : Content) (cell : SharedCell) (cells : Cells) → Sort t kind k (cells cell) d cell → MayPass k l (cells (AtThread u)) → content_put cell d cells (AtThread u) ≡ Thread Present → cells (AtThread u) ≡ Thread Present
   present_before kind k l d cell cells sort p at =
       sym (put_there cell (AtThread u) d cells (λ e. absurd (before_sort kind k l (cells cell) d cell e (here e ∙ at) (subst (λ x. MayPass k l (cells x)) (sym e) p) sort))) ∙ at
     where
-      here : cell ≡ AtThread u → d ≡ put cell d cells (AtThread u)
-      here e = sym (put_here cell d cells) ∙ ap (put cell d cells) e
+      here : cell ≡ AtThread u → d ≡ content_put cell d cells (AtThread u)
+      here e = sym (put_here cell d cells) ∙ ap (content_put cell d cells) e
 
   -- Two turns at one cell.
 
@@ -102,7 +102,7 @@ module _ (t u : ℕ) (other : t ≢ u) where
   locks_clash x there (inr a) (inr b) p = let e : Lock (Some a.0) ≡ Lock (Some b.0) = sym a.1 ∙ b.1 in let same : a.0 ≡ b.0 = cc in other (sym a.2 ∙ ap (λ (h : LogHold). h.by) same ∙ b.2)
 
   -- two accesses of one place
-  guards_clash : (g : Guard) (cells : Cells) {k l : StepKind} (there : Content) → k ≡ access_kind g cells t → l ≡ access_kind g cells u → MayPass k l there → ⊥
+  guards_clash : (g : Guard) (cells : Cells) {k l : StepKind} (there : Content) → k ≡ guarded_access_kind g cells t → l ≡ guarded_access_kind g cells u → MayPass k l there → ⊥
   guards_clash Unguarded cells there a b p = other_other there a b p
   guards_clash (ByThread v) cells {k} {l} there a b p = by (v == t) refl (v == u) refl p
     where
@@ -128,10 +128,10 @@ module _ (t u : ℕ) (other : t ≢ u) where
       by false ex y ey (inr q) = q.1 (a ∙ ap (λ (z : Bool). if z then Both else Bare) ex)
 
 -- the kind of an access is that of its place
-pub kind_place : (guard : ℕ → Guard) (cells : Cells) (t : ℕ) (e : Event) (p : ℕ) → cell_of t e ≡ AtPlace p → kind_at guard cells t e ≡ access_kind (guard p) cells t
+pub kind_place : (guard : ℕ → Guard) (cells : Cells) (t : ℕ) (e : Event) (p : ℕ) → cell_of t e ≡ AtPlace p → kind_at guard cells t e ≡ guarded_access_kind (guard p) cells t
 kind_place guard cells t (Take l) p at = absurd cc
 kind_place guard cells t (Give l) p at = absurd cc
-kind_place guard cells t (Access q seen left) p at = let same : q ≡ p = cc in ap (λ x. access_kind (guard x) cells t) same
+kind_place guard cells t (Access q seen left) p at = let same : q ≡ p = cc in ap (λ x. guarded_access_kind (guard x) cells t) same
 kind_place guard cells t (Start u) p at = absurd cc
 kind_place guard cells t (Join u) p at = absurd cc
 kind_place guard cells t Stop p at = absurd cc
@@ -142,7 +142,7 @@ kind_place guard cells t End p at = absurd cc
 module _ (t u : ℕ) (other : t ≢ u) (guard : ℕ → Guard) (cells : Cells) where
   -- by what the first makes of the cell
   clash : (k1 k2 k l : StepKind) (c x y there : Content) (a b : SharedCell) → a ≡ b → MayPass k l there → (a ≡ AtThread u → there ≡ c)
-      → ((p : ℕ) → a ≡ AtPlace p → k1 ≡ access_kind (guard p) cells t) → ((p : ℕ) → b ≡ AtPlace p → k2 ≡ access_kind (guard p) cells u)
+      → ((p : ℕ) → a ≡ AtPlace p → k1 ≡ guarded_access_kind (guard p) cells t) → ((p : ℕ) → b ≡ AtPlace p → k2 ≡ guarded_access_kind (guard p) cells u)
       → Sort t k1 k c x a → Sort u k2 l x y b → Idle t u other c x y
   clash k1 k2 k l c x y there (AtLock m) (AtLock n) same p is one two (of_lock a b) (of_lock d e) = absurd (locks_clash t u other x there b d p)
   clash k1 k2 k l c x y there (AtLock m) (AtPlace n) same p is one two (of_lock a b) (of_place d) = absurd cc
@@ -175,9 +175,9 @@ module _ (t u : ℕ) (other : t ≢ u) (guard : ℕ → Guard) (cells : Cells) w
 
 -- what two turns find and leave is the same in the other order
 pub record Apart (a b : SharedCell) (x y : Content) (cells : Cells) : Type 0 where
-  pub second : put a x cells b ≡ cells b
-  pub first : put b y cells a ≡ cells a
-  pub both : (cell : SharedCell) → put a x (put b y cells) cell ≡ put b y (put a x cells) cell
+  pub second : content_put a x cells b ≡ cells b
+  pub first : content_put b y cells a ≡ cells a
+  pub both : (cell : SharedCell) → content_put a x (content_put b y cells) cell ≡ content_put b y (content_put a x cells) cell
 
 apart_cells : (a b : SharedCell) (x y : Content) (cells : Cells) → a ≢ b → Apart a b x y cells
 apart_cells a b x y cells other = record {
@@ -188,14 +188,14 @@ apart_cells a b x y cells other = record {
 
 idle_cell : (a b : SharedCell) (x y : Content) (cells : Cells) → a ≡ b → x ≡ cells a → y ≡ cells a → Apart a b x y cells
 idle_cell a b x y cells same one two = record {
-  second = ap (put a x cells) (sym same) ∙ put_here a x cells ∙ one ∙ ap cells same;
-  first = ap (put b y cells) same ∙ put_here b y cells ∙ two;
-  both = λ cell. λ i. put (same i) ((one ∙ sym two) i) (put (sym same i) ((two ∙ sym one) i) cells) cell;
+  second = ap (content_put a x cells) (sym same) ∙ put_here a x cells ∙ one ∙ ap cells same;
+  first = ap (content_put b y cells) same ∙ put_here b y cells ∙ two;
+  both = λ cell. λ i. content_put (same i) ((one ∙ sym two) i) (content_put (sym same i) ((two ∙ sym one) i) cells) cell;
 }
 
 pub apart : (t u : ℕ) → t ≢ u → (guard : ℕ → Guard) (cells : Cells) (e f : Event) (x y : Turn) → MayPass x.kind y.kind (cells (AtThread u))
     → Sort t (kind_at guard cells t e) x.kind (cells (cell_of t e)) x.content (cell_of t e)
-    → Sort u (kind_at guard (put (cell_of t e) x.content cells) u f) y.kind (put (cell_of t e) x.content cells (cell_of u f)) y.content (cell_of u f)
+    → Sort u (kind_at guard (content_put (cell_of t e) x.content cells) u f) y.kind (content_put (cell_of t e) x.content cells (cell_of u f)) y.content (cell_of u f)
     → Apart (cell_of t e) (cell_of u f) x.content y.content cells
 apart t u other guard cells e f x y p sort_e sort_f = by (eq_cell (cell_of t e) (cell_of u f)) refl
   where
@@ -203,10 +203,10 @@ apart t u other guard cells e f x y p sort_e sort_f = by (eq_cell (cell_of t e) 
     by false is = apart_cells (cell_of t e) (cell_of u f) x.content y.content cells (λ same. absurd (let h : true ≡ false = sym (itself (cell_of t e)) ∙ ap (eq_cell (cell_of t e)) same ∙ is in cc))
     by true is =
         let same = same_cell (cell_of t e) (cell_of u f) is in
-        let found : put (cell_of t e) x.content cells (cell_of u f) ≡ x.content = ap (put (cell_of t e) x.content cells) (sym same) ∙ put_here (cell_of t e) x.content cells in
-        let idle = clash t u other guard cells (kind_at guard cells t e) (kind_at guard (put (cell_of t e) x.content cells) u f) x.kind y.kind (cells (cell_of t e)) x.content y.content (cells (AtThread u)) (cell_of t e) (cell_of u f) same p
+        let found : content_put (cell_of t e) x.content cells (cell_of u f) ≡ x.content = ap (content_put (cell_of t e) x.content cells) (sym same) ∙ put_here (cell_of t e) x.content cells in
+        let idle = clash t u other guard cells (kind_at guard cells t e) (kind_at guard (content_put (cell_of t e) x.content cells) u f) x.kind y.kind (cells (cell_of t e)) x.content y.content (cells (AtThread u)) (cell_of t e) (cell_of u f) same p
         (λ at. ap cells (sym at))
         (λ n at. kind_place guard cells t e n at)
         (λ n at. kind_kept u t (λ z. absurd (other (sym z))) guard (kind_at guard cells t e) x.kind x.content (cell_of t e) cells sort_e f ∙ kind_place guard cells u f n at)
-        sort_e (subst (λ z. Sort u (kind_at guard (put (cell_of t e) x.content cells) u f) y.kind z y.content (cell_of u f)) found sort_f) in
+        sort_e (subst (λ z. Sort u (kind_at guard (content_put (cell_of t e) x.content cells) u f) y.kind z y.content (cell_of u f)) found sort_f) in
         idle_cell (cell_of t e) (cell_of u f) x.content y.content cells same idle.0 idle.1

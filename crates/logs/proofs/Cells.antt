@@ -2,7 +2,7 @@
 use Rattle.std.proofs.Common.{◌≡◌, ◌≢◌, ℕ, ◌==◌, Bool, true, false, refl, sym, ap, ◌∙◌}
 use Rattle.std.specs.Prelude.{if◌then◌else◌}
 use Rattle.std.proofs.lemmas.Bool.{eqb-true, eq-eqb}
-use Rattle.logs.specs.Memory.{SharedCell, AtLock, AtPlace, AtThread, Content, eq_cell, Cells, put, Own, put_own}
+use Rattle.logs.specs.Memory.{SharedCell, AtLock, AtPlace, AtThread, Content, eq_cell, Cells, content_put, Own, put_own}
 
 pub same_cell : (a b : SharedCell) → eq_cell a b ≡ true → a ≡ b
 same_cell (AtLock l) (AtLock m) e = ap AtLock (eqb-true l m e)
@@ -28,14 +28,14 @@ pub other_cell : (a b : SharedCell) → a ≢ b → eq_cell a b ≡ false
 other_cell a b other = not_true (eq_cell a b) (λ e. absurd (other (same_cell a b e)))
 
 -- what is in a cell after something was put into that one, and after something was put into another
-pub put_here : (a : SharedCell) (c : Content) (cells : Cells) → put a c cells a ≡ c
+pub put_here : (a : SharedCell) (c : Content) (cells : Cells) → content_put a c cells a ≡ c
 put_here a c cells = ap (λ (b : Bool). if b then c else cells a) (itself a)
 
-pub put_there : (a b : SharedCell) (c : Content) (cells : Cells) → a ≢ b → put a c cells b ≡ cells b
+pub put_there : (a b : SharedCell) (c : Content) (cells : Cells) → a ≢ b → content_put a c cells b ≡ cells b
 put_there a b c cells other = ap (λ (x : Bool). if x then c else cells b) (other_cell a b other)
 
 -- into two cells in either order
-pub put_put : (a b : SharedCell) (c d : Content) (cells : Cells) → a ≢ b → (cell : SharedCell) → put a c (put b d cells) cell ≡ put b d (put a c cells) cell
+pub put_put : (a b : SharedCell) (c d : Content) (cells : Cells) → a ≢ b → (cell : SharedCell) → content_put a c (content_put b d cells) cell ≡ content_put b d (content_put a c cells) cell
 put_put a b c d cells other cell = by (eq_cell a cell) refl (eq_cell b cell) refl
   where
     by : (x : Bool) → eq_cell a cell ≡ x → (y : Bool) → eq_cell b cell ≡ y → (if x then c else (if y then d else cells cell)) ≡ (if y then d else (if x then c else cells cell))

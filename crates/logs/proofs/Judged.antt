@@ -6,14 +6,14 @@ use Rattle.state.specs.declared.value.StepKind.{StepKind}
 use Rattle.semantics.specs.Units.{Entry, is_commit}
 use Rattle.semantics.specs.Words.{fits_phase, FitPhases}
 use Rattle.reduction.specs.Serial.{IsSerialOrder}
-use Rattle.reduction.specs.Systems.{Steps, run_then, run_from, entry_then, entries_from, written_from}
+use Rattle.reduction.specs.Systems.{Steps, run_then, system_run_from, system_entry_then, system_entries_from, written_from}
 use Rattle.reduction.proofs.Phases.{phases_words}
 use Rattle.reduction.proofs.Whole.{written}
 use Rattle.logs.specs.Events.{Event, Take, Give, Access, Start, Join, Stop, Begin, End, LogLine, order_of}
 use Rattle.logs.specs.Judging.{Known, nothing_known, assumed, cell_content, known_locks, known_after, Note, Goes, Stops, note_kind, note_turn, event_turn, note_there, line_noted, note_then, judged, events_of, first_content, memory_before}
-use Rattle.logs.specs.Logs.{Guard, ByLock, ByThread, Unguarded, access_kind, kind_at, turned, first_step, step_at, is_within, logs}
-use Rattle.logs.specs.Memory.{Absent, Present, Ended, SharedCell, AtLock, AtThread, Content, Lock, Value, Thread, eq_cell, put, Own, put_own, Memory}
-use Rattle.logs.specs.Turns.{cell_of, Turn, turn, blocks_after}
+use Rattle.logs.specs.Logs.{Guard, ByLock, ByThread, Unguarded, guarded_access_kind, kind_at, turned, first_step, step_at, is_within, logs}
+use Rattle.logs.specs.Memory.{Absent, Present, Ended, SharedCell, AtLock, AtThread, Content, Lock, Value, Thread, eq_cell, content_put, Own, put_own, LogMemory}
+use Rattle.logs.specs.Turns.{cell_of, Turn, turn_by_content, blocks_after}
 use Rattle.logs.proofs.Cells.{same_cell, itself}
 use Rattle.logs.proofs.Moves.{logs_move}
 
@@ -46,7 +46,7 @@ module _ (guard : ℕ → Guard) where
     pub phases : (v : ℕ) → next.committed v ≡ (if v == line.thread then is_within ((memory_before next rest).own line.thread) && (k.committed line.thread || is_commit kind) else k.committed v)
 
   module _ (k : Known) (line : LogLine) (rest : List LogLine) where
-    abbrev before : Memory
+    abbrev before : LogMemory
     before = memory_before k (line ∷ rest)
 
     abbrev cell : SharedCell
@@ -71,8 +71,8 @@ module _ (guard : ℕ → Guard) where
         by false e = ap (λ (x : Bool). unwrap_or (k.cells cell) (if x then assumed line.event else first_content cell rest)) (itself cell)
 
     -- accesses are of the kind that they have by what is known
-    access_same : (g : Guard) → access_kind g before.cells line.thread ≡ access_kind g (known_locks k) line.thread
-    access_same (ByLock l) = ap (λ c. access_kind (ByLock l) (λ x. unwrap_or (k.cells x) c) line.thread) (lock_first l (line ∷ rest))
+    access_same : (g : Guard) → guarded_access_kind g before.cells line.thread ≡ guarded_access_kind g (known_locks k) line.thread
+    access_same (ByLock l) = ap (λ c. guarded_access_kind (ByLock l) (λ x. unwrap_or (k.cells x) c) line.thread) (lock_first l (line ∷ rest))
     access_same (ByThread u) = refl
     access_same Unguarded = refl
 
@@ -87,7 +87,7 @@ module _ (guard : ℕ → Guard) where
     kind_same End = refl
 
     module _ (d : ℕ) (x : Turn) (there : unwrap_or (k.cells own) (Thread Present) ≡ Thread Present) where
-      cells_same : (c : SharedCell) → put cell x.content before.cells c ≡ (memory_before (known_after k line d x) rest).cells c
+      cells_same : (c : SharedCell) → content_put cell x.content before.cells c ≡ (memory_before (known_after k line d x) rest).cells c
       cells_same c = by (eq_cell cell c) refl (eq_cell own c) refl
         where
           by : (a : Bool) → eq_cell cell c ≡ a → (b : Bool) → eq_cell own c ≡ b
@@ -112,7 +112,7 @@ module _ (guard : ℕ → Guard) where
         steps =
             ap (λ c. step_at guard before line.thread c (before.own line.thread).rest) (present there)
             ∙ ap (λ (b : Bool). first_step guard before line.thread (if b then line.event ∷ events_of line.thread rest else events_of line.thread rest)) (eq-eqb line.thread line.thread refl)
-            ∙ (λ i. turned before line.thread line.event (events_of line.thread rest) (deep i) (((λ j. turn (kind_same line.event j) line.event line.thread (finds there j)) ∙ is) i))
+            ∙ (λ i. turned before line.thread line.event (events_of line.thread rest) (deep i) (((λ j. turn_by_content (kind_same line.event j) line.event line.thread (finds there j)) ∙ is) i))
             ∙ (λ i. Some (record { kind = x.kind; to = record { cells = λ c. cells_same c i; own = λ u. own_same u i } }));
         fits = fits;
         phases = λ v. ap (λ (b : Bool). if v == line.thread then not ((if b then d else k.depth line.thread) == 0) && (k.committed line.thread || is_commit x.kind) else k.committed v) (sym (eq-eqb line.thread line.thread refl));
@@ -140,26 +140,26 @@ module _ (guard : ℕ → Guard) where
 
   -- All lines.
 
-  pub judged_run : (lines : List LogLine) (k end : Known) → judged guard k lines ≡ Goes end → run_from (logs guard) (memory_before k lines) (order_of lines) ≡ Some (memory_before end [])
+  pub judged_run : (lines : List LogLine) (k end : Known) → judged guard k lines ≡ Goes end → system_run_from (logs guard) (memory_before k lines) (order_of lines) ≡ Some (memory_before end [])
   judged_run [] k end is = let same : k ≡ end = cc in ap (λ z. Some (memory_before z [])) same
   judged_run (line ∷ lines) k end is = by (line_noted guard k line) refl is (λ next h. judged_run lines next end h)
     where
-      by : (n : Note) → line_noted guard k line ≡ n → note_then n (λ next. judged guard next lines) ≡ Goes end → ((next : Known) → judged guard next lines ≡ Goes end → run_from (logs guard) (memory_before next lines) (order_of lines) ≡ Some (memory_before end []))
-          → run_from (logs guard) (memory_before k (line ∷ lines)) (order_of (line ∷ lines)) ≡ Some (memory_before end [])
-      by (Goes next) e h later = ap (λ o. run_then o (λ q. run_from (logs guard) q (order_of lines))) (stepped k line lines next e).steps ∙ later next h
+      by : (n : Note) → line_noted guard k line ≡ n → note_then n (λ next. judged guard next lines) ≡ Goes end → ((next : Known) → judged guard next lines ≡ Goes end → system_run_from (logs guard) (memory_before next lines) (order_of lines) ≡ Some (memory_before end []))
+          → system_run_from (logs guard) (memory_before k (line ∷ lines)) (order_of (line ∷ lines)) ≡ Some (memory_before end [])
+      by (Goes next) e h later = ap (λ o. run_then o (λ q. system_run_from (logs guard) q (order_of lines))) (stepped k line lines next e).steps ∙ later next h
       by (Stops why) e h later = absurd cc
 
-  judged_fits : (lines : List LogLine) (k end : Known) (place : ℕ) → judged guard k lines ≡ Goes end → FitPhases k.committed (entries_from (logs guard) (memory_before k lines) place (order_of lines))
+  judged_fits : (lines : List LogLine) (k end : Known) (place : ℕ) → judged guard k lines ≡ Goes end → FitPhases k.committed (system_entries_from (logs guard) (memory_before k lines) place (order_of lines))
   judged_fits [] k end place is = tt
   judged_fits (line ∷ lines) k end place is = by (line_noted guard k line) refl is (λ next h. judged_fits lines next end (place + 1) h)
     where
       by : (n : Note) → line_noted guard k line ≡ n → note_then n (λ next. judged guard next lines) ≡ Goes end
-          → ((next : Known) → judged guard next lines ≡ Goes end → FitPhases next.committed (entries_from (logs guard) (memory_before next lines) (place + 1) (order_of lines))) → FitPhases k.committed (entries_from (logs guard) (memory_before k (line ∷ lines)) place (order_of (line ∷ lines)))
+          → ((next : Known) → judged guard next lines ≡ Goes end → FitPhases next.committed (system_entries_from (logs guard) (memory_before next lines) (place + 1) (order_of lines))) → FitPhases k.committed (system_entries_from (logs guard) (memory_before k (line ∷ lines)) place (order_of (line ∷ lines)))
       by (Goes next) e h later =
           let s = stepped k line lines next e in
-          let es = entries_from (logs guard) (memory_before next lines) (place + 1) (order_of lines) in
+          let es = system_entries_from (logs guard) (memory_before next lines) (place + 1) (order_of lines) in
           let entry : Entry = record { place = place; thread = line.thread; kind = s.kind; inside = is_within ((memory_before next lines).own line.thread) } in
-          subst (FitPhases k.committed) (ap (λ o. entry_then (logs guard) place line.thread o (λ q. entries_from (logs guard) q (place + 1) (order_of lines))) (sym s.steps))
+          subst (FitPhases k.committed) (ap (λ o. system_entry_then (logs guard) place line.thread o (λ q. system_entries_from (logs guard) q (place + 1) (order_of lines))) (sym s.steps))
           (s.fits, subst (λ c. FitPhases c es) (λ i v. s.phases v i) (later next h))
       by (Stops why) e h later = absurd cc
 
@@ -167,4 +167,4 @@ module _ (guard : ℕ → Guard) where
       → IsSerialOrder (logs guard) (memory_before nothing_known lines) (order_of lines) (written_from (logs guard) (memory_before nothing_known lines) (order_of lines)) (memory_before end [])
   judged_serial lines end is closed =
       written (logs_move guard) (order_of lines) (memory_before nothing_known lines) (memory_before end []) tt (judged_run lines nothing_known end is) (λ t there. ap (λ n. not (n == 0)) (closed t))
-      (phases_words (entries_from (logs guard) (memory_before nothing_known lines) 0 (order_of lines)) (λ t. false) (judged_fits lines nothing_known end 0 is))
+      (phases_words (system_entries_from (logs guard) (memory_before nothing_known lines) 0 (order_of lines)) (λ t. false) (judged_fits lines nothing_known end 0 is))

@@ -6,13 +6,13 @@ use Rattle.std.proofs.lemmas.Option.{same_Some}
 use Rattle.state.specs.declared.value.StepKind.{StepKind}
 use Rattle.state.specs.declared.value.StepKind.TheVariants.{Both}
 use Rattle.reduction.specs.Serial.{IsSerialOrder}
-use Rattle.reduction.specs.Systems.{StepTo, run_then, run_from, written_from}
+use Rattle.reduction.specs.Systems.{StepTo, run_then, system_run_from, written_from}
 use Rattle.logs.specs.Events.{Word, Event, Take, Give, Access, Start, Join, Stop, Begin, End, LogLine, order_of}
 use Rattle.logs.specs.Judging.{Known, nothing_known, Note, Goes, Stops, line_noted, note_then, judged, events_of, memory_before}
 use Rattle.logs.specs.Logs.{Guard, kind_at, is_within, logs}
-use Rattle.logs.specs.Memory.{AtThread, Content, Lock, Value, Thread, put, Own, put_own, Memory}
+use Rattle.logs.specs.Memory.{AtThread, Content, Lock, Value, Thread, content_put, Own, put_own, LogMemory}
 use Rattle.logs.specs.Serial.{Scene, scene_after, scene_at, scene_then, happen, IsSerialLog}
-use Rattle.logs.specs.Turns.{cell_of, Turn, only_if, saw_content, left_in, access_turn, turn}
+use Rattle.logs.specs.Turns.{cell_of, Turn, only_if, saw_content, left_in, access_turn, turn_by_content}
 use Rattle.logs.proofs.Cells.{not_true, own_here, own_other}
 use Rattle.logs.proofs.Judged.{stepped, judged_run, judged_serial}
 use Rattle.logs.proofs.Moves.{Did, did}
@@ -28,7 +28,7 @@ access_any kind seen left (Value v) x e = by (saw_content seen v) e
     by false h = absurd cc
 access_any kind seen left (Thread p) x e = absurd cc
 
-turn_any : (kind : StepKind) (e : Event) (t : ℕ) (c : Content) (x : Turn) → turn kind e t c ≡ Some x → (y : Turn) × (turn Both e t c ≡ Some y) × (y.content ≡ x.content)
+turn_any : (kind : StepKind) (e : Event) (t : ℕ) (c : Content) (x : Turn) → turn_by_content kind e t c ≡ Some x → (y : Turn) × (turn_by_content Both e t c ≡ Some y) × (y.content ≡ x.content)
 turn_any kind (Take l) t c x e = (x, e, refl)
 turn_any kind (Give l) t c x e = (x, e, refl)
 turn_any kind (Access p seen left) t c x e = access_any kind seen left c x e
@@ -38,52 +38,52 @@ turn_any kind Stop t c x e = (x, e, refl)
 turn_any kind (Begin name) t c x e = (x, e, refl)
 turn_any kind End t c x e = (x, e, refl)
 
-abbrev pub scene_of : Memory → Scene
+abbrev pub scene_of : LogMemory → Scene
 scene_of q = record { cells = q.cells; depth = λ u. (q.own u).depth }
 
 -- the line of a step, before those after it
-abbrev pub line_then : ℕ → List Event → Option (StepTo Memory) → (Memory → List LogLine) → List LogLine
+abbrev pub line_then : ℕ → List Event → Option (StepTo LogMemory) → (LogMemory → List LogLine) → List LogLine
 line_then t [] o later = []
 line_then t (e ∷ es) None later = []
 line_then t (e ∷ es) (Some x) later = record { thread = t; event = e } ∷ later x.to
 
 module _ (guard : ℕ → Guard) where
   -- the lines of a schedule from a memory
-  abbrev pub lines_of : Memory → List ℕ → List LogLine
+  abbrev pub lines_of : LogMemory → List ℕ → List LogLine
   lines_of q [] = []
   lines_of q (t ∷ s) = line_then t (q.own t).rest ((logs guard).step q t) (λ next. lines_of next s)
 
   -- a schedule that runs makes a step
-  abbrev Next : Memory → ℕ → List ℕ → Memory → Type 0
-  Next q t s end = (x : StepTo Memory) × ((logs guard).step q t ≡ Some x) × (run_from (logs guard) x.to s ≡ Some end)
+  abbrev Next : LogMemory → ℕ → List ℕ → LogMemory → Type 0
+  Next q t s end = (x : StepTo LogMemory) × ((logs guard).step q t ≡ Some x) × (system_run_from (logs guard) x.to s ≡ Some end)
 
-  next : (q : Memory) (t : ℕ) (s : List ℕ) (end : Memory) → run_from (logs guard) q (t ∷ s) ≡ Some end → Next q t s end
+  next : (q : LogMemory) (t : ℕ) (s : List ℕ) (end : LogMemory) → system_run_from (logs guard) q (t ∷ s) ≡ Some end → Next q t s end
   next q t s end ran = by ((logs guard).step q t) refl ran
     where
-      by : (o : Option (StepTo Memory)) → (logs guard).step q t ≡ o → run_then o (λ r. run_from (logs guard) r s) ≡ Some end → Next q t s end
+      by : (o : Option (StepTo LogMemory)) → (logs guard).step q t ≡ o → run_then o (λ r. system_run_from (logs guard) r s) ≡ Some end → Next q t s end
       by None e h = absurd cc
       by (Some x) e h = (x, e, h)
 
   -- its first line
-  first_line : (q : Memory) (t : ℕ) (s : List ℕ) (x : StepTo Memory) → (logs guard).step q t ≡ Some x → (m : Did guard q t x.kind x.to)
+  first_line : (q : LogMemory) (t : ℕ) (s : List ℕ) (x : StepTo LogMemory) → (logs guard).step q t ≡ Some x → (m : Did guard q t x.kind x.to)
       → lines_of q (t ∷ s) ≡ record { thread = t; event = m.event } ∷ lines_of x.to s
   first_line q t s x e m = λ i. line_then t (m.log i) (e i) (λ r. lines_of r s)
 
   -- a step makes the scene after its line
-  scene_next : (q : Memory) (t : ℕ) (kind : StepKind) (r : Memory) → (m : Did guard q t kind r) → scene_at (scene_of q) (record { thread = t; event = m.event }) (q.cells (AtThread t)) ≡ Some (scene_of r)
+  scene_next : (q : LogMemory) (t : ℕ) (kind : StepKind) (r : LogMemory) → (m : Did guard q t kind r) → scene_at (scene_of q) (record { thread = t; event = m.event }) (q.cells (AtThread t)) ≡ Some (scene_of r)
   scene_next q t kind r m =
       let line : LogLine = record { thread = t; event = m.event } in
       let any = turn_any (kind_at guard q.cells t m.event) m.event t (q.cells (cell_of t m.event)) m.turn_is m.turns in
       ap (scene_at (scene_of q) line) m.present
       ∙ (λ i. scene_after (scene_of q) line (m.deep i) (any.1 i))
-      ∙ (λ i. Some (record { cells = put (cell_of t m.event) (any.2 i) q.cells; depth = λ u. depth_same u (t == u) i }))
+      ∙ (λ i. Some (record { cells = content_put (cell_of t m.event) (any.2 i) q.cells; depth = λ u. depth_same u (t == u) i }))
       ∙ ap (λ z. Some (scene_of z)) m.to
     where
       depth_same : (u : ℕ) (b : Bool) → (if b then m.depth else (q.own u).depth) ≡ (if◌then◌else◌ {A = Own} b (record { depth = m.depth; rest = m.rest }) (q.own u)).depth
       depth_same u true = refl
       depth_same u false = refl
 
-  pub lines_happen : (s : List ℕ) (q end : Memory) → run_from (logs guard) q s ≡ Some end → happen (scene_of q) (lines_of q s) ≡ Some (scene_of end)
+  pub lines_happen : (s : List ℕ) (q end : LogMemory) → system_run_from (logs guard) q s ≡ Some end → happen (scene_of q) (lines_of q s) ≡ Some (scene_of end)
   lines_happen [] q end ran = ap (λ z. Some (scene_of z)) (same_Some q end ran)
   lines_happen (t ∷ s) q end ran =
       let n = next q t s end ran in
@@ -92,7 +92,7 @@ module _ (guard : ℕ → Guard) where
       ∙ ap (λ o. scene_then o (λ z. happen z (lines_of n.0.to s))) (scene_next q t n.0.kind n.0.to m)
       ∙ lines_happen s n.0.to end n.2
 
-  pub lines_order : (s : List ℕ) (q end : Memory) → run_from (logs guard) q s ≡ Some end → order_of (lines_of q s) ≡ s
+  pub lines_order : (s : List ℕ) (q end : LogMemory) → system_run_from (logs guard) q s ≡ Some end → order_of (lines_of q s) ≡ s
   lines_order [] q end ran = refl
   lines_order (t ∷ s) q end ran =
       let n = next q t s end ran in
@@ -100,15 +100,15 @@ module _ (guard : ℕ → Guard) where
       ap order_of (first_line q t s n.0 n.1 m) ∙ ap (λ r. t ∷ r) (lines_order s n.0.to end n.2)
 
   -- each thread's lines are what the log says of it, but for what is left
-  pub lines_own : (s : List ℕ) (q end : Memory) → run_from (logs guard) q s ≡ Some end → (u : ℕ) → (q.own u).rest ≡ events_of u (lines_of q s) ++ (end.own u).rest
-  lines_own [] q end ran u = ap (λ (z : Memory). (z.own u).rest) (same_Some q end ran)
+  pub lines_own : (s : List ℕ) (q end : LogMemory) → system_run_from (logs guard) q s ≡ Some end → (u : ℕ) → (q.own u).rest ≡ events_of u (lines_of q s) ++ (end.own u).rest
+  lines_own [] q end ran u = ap (λ (z : LogMemory). (z.own u).rest) (same_Some q end ran)
   lines_own (t ∷ s) q end ran u =
       let n = next q t s end ran in
       let m = did guard q t n.0.kind n.0.to n.1 in
       let later = lines_own s n.0.to end n.2 u in
-      by m (record { depth = m.depth; rest = m.rest }) refl n.0.to (ap (λ (z : Memory). z.own u) m.to) (t == u) refl (lines_of n.0.to s) later ∙ ap (λ ls. events_of u ls ++ (end.own u).rest) (sym (first_line q t s n.0 n.1 m))
+      by m (record { depth = m.depth; rest = m.rest }) refl n.0.to (ap (λ (z : LogMemory). z.own u) m.to) (t == u) refl (lines_of n.0.to s) later ∙ ap (λ ls. events_of u ls ++ (end.own u).rest) (sym (first_line q t s n.0 n.1 m))
     where
-      by : {kind : StepKind} {r : Memory} (m : Did guard q t kind r) (mine : Own) → mine.rest ≡ m.rest → (z : Memory) → put_own t mine q.own u ≡ z.own u
+      by : {kind : StepKind} {r : LogMemory} (m : Did guard q t kind r) (mine : Own) → mine.rest ≡ m.rest → (z : LogMemory) → put_own t mine q.own u ≡ z.own u
           → (b : Bool) → (t == u) ≡ b → (ls : List LogLine) → (z.own u).rest ≡ events_of u ls ++ (end.own u).rest
           → (q.own u).rest ≡ (if b then m.event ∷ events_of u ls else events_of u ls) ++ (end.own u).rest
       by m mine is z to true e ls later =
@@ -118,7 +118,7 @@ module _ (guard : ℕ → Guard) where
           ap (λ (o : Own). o.rest) (sym (own_other t u mine q.own (λ same. absurd (let h : true ≡ false = sym (eq-eqb t u same) ∙ e in cc))) ∙ to) ∙ later
 
   -- a front of a schedule that runs
-  pub front_runs : (n : ℕ) (s : List ℕ) (q end : Memory) → run_from (logs guard) q s ≡ Some end → (r : Memory) × (run_from (logs guard) q (take n s) ≡ Some r) × (take n (lines_of q s) ≡ lines_of q (take n s))
+  pub front_runs : (n : ℕ) (s : List ℕ) (q end : LogMemory) → system_run_from (logs guard) q s ≡ Some end → (r : LogMemory) × (system_run_from (logs guard) q (take n s) ≡ Some r) × (take n (lines_of q s) ≡ lines_of q (take n s))
   front_runs zero s q end ran = (q, refl, refl)
   front_runs (suc n) [] q end ran = (q, refl, refl)
   front_runs (suc n) (t ∷ s) q end ran =
@@ -126,7 +126,7 @@ module _ (guard : ℕ → Guard) where
       let m = did guard q t x.0.kind x.0.to x.1 in
       let later = front_runs n s x.0.to end x.2 in (
         later.0,
-        ap (λ o. run_then o (λ r. run_from (logs guard) r (take n s))) x.1 ∙ later.1,
+        ap (λ o. run_then o (λ r. system_run_from (logs guard) r (take n s))) x.1 ∙ later.1,
         ap (take (suc n)) (first_line q t s x.0 x.1 m) ∙ ap (λ ls. record { thread = t; event = m.event } ∷ ls) later.2 ∙ sym (first_line q t (take n s) x.0 x.1 m),
       )
 

@@ -4,7 +4,7 @@ use Rattle.std.specs.Str.{bytes_eq}
 use Rattle.std.specs.Cmp.{both_ways}
 use Rattle.std.proofs.lemmas.Bool.{eq-eqb, eqb-true}
 use Rattle.std.proofs.lemmas.Slice.Eq.{bytes_eq-Decides}
-use Rattle.logs.specs.Numbers.{paired, number_of}
+use Rattle.logs.specs.Numbers.{paired, number_of_word}
 
 -- no pair has the number 0
 pub paired-pos : (b n : ℕ) → paired b n ≡ 0 → ⊥
@@ -23,21 +23,21 @@ paired-right zero (suc c) n m e = absurd (omega (arith, e))
 paired-right (suc b) zero n m e = absurd (omega (arith, e))
 paired-right (suc b) (suc c) n m e = paired-right b c n m (omega (arith, e))
 
-pub number-inj : (v w : List ℕ) → number_of v ≡ number_of w → v ≡ w
+pub number-inj : (v w : List ℕ) → number_of_word v ≡ number_of_word w → v ≡ w
 number-inj [] [] e = refl
-number-inj [] (c ∷ cs) e = absurd (paired-pos c (number_of cs) (sym e))
-number-inj (b ∷ bs) [] e = absurd (paired-pos b (number_of bs) e)
+number-inj [] (c ∷ cs) e = absurd (paired-pos c (number_of_word cs) (sym e))
+number-inj (b ∷ bs) [] e = absurd (paired-pos b (number_of_word bs) e)
 number-inj (b ∷ bs) (c ∷ cs) e =
-    let first = paired-left b c (number_of bs) (number_of cs) e in
-    let rest = number-inj bs cs (paired-right b c (number_of bs) (number_of cs) e) in cc
+    let first = paired-left b c (number_of_word bs) (number_of_word cs) e in
+    let rest = number-inj bs cs (paired-right b c (number_of_word bs) (number_of_word cs) e) in cc
 
 -- the test on numbers and the test on bytes agree
-pub same_number : (v w : List ℕ) → (number_of v == number_of w) ≡ bytes_eq v w
-same_number v w = both_ways (number_of v == number_of w) (bytes_eq v w)
-    (λ e. (bytes_eq-Decides v w).1 (number-inj v w (eqb-true (number_of v) (number_of w) e)))
-    (λ e. eq-eqb (number_of v) (number_of w) (ap number_of ((bytes_eq-Decides v w).0 e)))
+pub same_number : (v w : List ℕ) → (number_of_word v == number_of_word w) ≡ bytes_eq v w
+same_number v w = both_ways (number_of_word v == number_of_word w) (bytes_eq v w)
+    (λ e. (bytes_eq-Decides v w).1 (number-inj v w (eqb-true (number_of_word v) (number_of_word w) e)))
+    (λ e. eq-eqb (number_of_word v) (number_of_word w) (ap number_of_word ((bytes_eq-Decides v w).0 e)))
 
-pub same_other : (v w : List ℕ) → (number_of w == number_of v) ≡ bytes_eq v w
-same_other v w = both_ways (number_of w == number_of v) (bytes_eq v w)
-    (λ e. (bytes_eq-Decides v w).1 (sym (number-inj w v (eqb-true (number_of w) (number_of v) e))))
-    (λ e. eq-eqb (number_of w) (number_of v) (ap number_of (sym ((bytes_eq-Decides v w).0 e))))
+pub same_other : (v w : List ℕ) → (number_of_word w == number_of_word v) ≡ bytes_eq v w
+same_other v w = both_ways (number_of_word w == number_of_word v) (bytes_eq v w)
+    (λ e. (bytes_eq-Decides v w).1 (sym (number-inj w v (eqb-true (number_of_word w) (number_of_word v) e))))
+    (λ e. eq-eqb (number_of_word w) (number_of_word v) (ap number_of_word (sym ((bytes_eq-Decides v w).0 e))))

@@ -7,7 +7,7 @@ use Rattle.state.specs.declared.value.StepKind.{StepKind}
 use Rattle.state.specs.declared.value.StepKind.TheVariants.{Both, Right, Left}
 use Rattle.logs.specs.Events.{Word, Event, Take, Give, Access, Start, Join, Stop, Begin, End}
 use Rattle.logs.specs.Memory.{LogHold, Absent, Present, Ended, SharedCell, AtLock, AtPlace, AtThread, Content, Lock, Value, Thread}
-use Rattle.logs.specs.Turns.{cell_of, Turn, only_if, take_turn, turn_of_holder, give_turn, saw_content, left_in, access_turn, start_turn, join_turn, own_turn, turn}
+use Rattle.logs.specs.Turns.{cell_of, Turn, only_if, take_turn, turn_of_holder, give_turn, saw_content, left_in, access_turn, start_turn, join_turn, own_turn, turn_by_content}
 
 -- a lock that a thread finds or leaves: free, with this kind of step, or held by it
 abbrev pub Gripped : ℕ → StepKind → StepKind → Content → Type 0
@@ -80,7 +80,7 @@ module _ (t : ℕ) (kind : StepKind) where
       by same (inr is) = inr (ap (λ (z : Turn). z.content) (sym same) ∙ is.0, ap (λ (z : Turn). z.kind) (sym same) ∙ is.1)
   own_sort x leaves (Thread Ended) y e = absurd cc
 
-  pub sorted : (e : Event) (c : Content) (y : Turn) → turn kind e t c ≡ Some y → Sort t kind y.kind c y.content (cell_of t e)
+  pub sorted : (e : Event) (c : Content) (y : Turn) → turn_by_content kind e t c ≡ Some y → Sort t kind y.kind c y.content (cell_of t e)
   sorted (Take l) c y e = take_sort l c y e
   sorted (Give l) c y e = give_sort l c y e
   sorted (Access p seen left) c y e = access_sort p seen left c y e

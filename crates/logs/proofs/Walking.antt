@@ -5,15 +5,15 @@ use Rattle.logs.specs.Logs.{Guard}
 use Rattle.logs.specs.Stops.{IsEnd}
 use Rattle.logs.specs.declared.walk.WalkEnd.{WalkEnd}
 use Rattle.logs.specs.declared.walk.WalkEnd.TheVariants as ends
-use Rattle.logs.specs.Walks.{Stand, Walked, Stands, NoLine, Refused, after_byte, walk_then, walked}
+use Rattle.logs.specs.Walks.{Stand, WalkedTo, Stands, NoLine, Refused, after_byte, walk_then, walked}
 
-then_then : (w : Walked) (f g : Stand → Walked) → walk_then (walk_then w f) g ≡ walk_then w (λ s. walk_then (f s) g)
+then_then : (w : WalkedTo) (f g : Stand → WalkedTo) → walk_then (walk_then w f) g ≡ walk_then w (λ s. walk_then (f s) g)
 then_then (Stands s) f g = refl
 then_then (NoLine n) f g = refl
 then_then (Refused n said why) f g = refl
 
 -- where a walk ends, what is done then changes nothing
-end_then : (m : Stand) (w : Walked) (later : Stand → Walked) (end : WalkEnd) → IsEnd m w end → IsEnd m (walk_then w later) end
+end_then : (m : Stand) (w : WalkedTo) (later : Stand → WalkedTo) (end : WalkEnd) → IsEnd m w end → IsEnd m (walk_then w later) end
 end_then m w later ends.NoLine is = ap (λ x. walk_then x later) is
 end_then m w later (ends.Refused why) is = (is.0, is.1, ap (λ x. walk_then x later) is.2)
 end_then m w later ends.NoMemory is = tt

@@ -5,9 +5,9 @@ use Rattle.logs.specs.Judging.{Refusal, Note, Goes, Stops}
 use Rattle.logs.specs.Logs.{Guard, ByLock, Unguarded}
 
 -- why a judge stops, where it does
-abbrev pub stop_of : Note → Option Refusal
-stop_of (Goes k) = None
-stop_of (Stops why) = Some why
+abbrev pub refusal_of_note : Note → Option Refusal
+refusal_of_note (Goes k) = None
+refusal_of_note (Stops why) = Some why
 
 abbrev pub line : ℕ → Event → LogLine
 line t e = record { thread = t; event = e }
@@ -22,12 +22,12 @@ abbrev pub counts : ℕ → (from to : Word) → List LogLine
 counts t from to = line t (Take 0) ∷ line t (Access 0 (Some from) None) ∷ line t (Access 0 None (Some to)) ∷ line t (Give 0) ∷ []
 
 -- thread 0 counts in a block; thread 1 writes a place that nothing guards in between, and counts then
-abbrev pub counter : List LogLine
-counter = line 0 (Begin 0) ∷ line 0 (Take 0) ∷ line 1 (Access 1 None (Some (7 ∷ []))) ∷ line 0 (Access 0 (Some (0 ∷ [])) (Some (1 ∷ []))) ∷ line 0 (Give 0) ∷ line 0 End ∷ counts 1 (1 ∷ []) (2 ∷ [])
+abbrev pub counter_log : List LogLine
+counter_log = line 0 (Begin 0) ∷ line 0 (Take 0) ∷ line 1 (Access 1 None (Some (7 ∷ []))) ∷ line 0 (Access 0 (Some (0 ∷ [])) (Some (1 ∷ []))) ∷ line 0 (Give 0) ∷ line 0 End ∷ counts 1 (1 ∷ []) (2 ∷ [])
 
 -- a block that takes the lock twice, and another thread in between
-abbrev pub twice : List LogLine
-twice = line 0 (Begin 0) ∷ counts 0 (0 ∷ []) (1 ∷ []) ++ counts 1 (1 ∷ []) (2 ∷ []) ++ counts 0 (2 ∷ []) (3 ∷ []) ++ line 0 End ∷ []
+abbrev pub lock_taken_twice : List LogLine
+lock_taken_twice = line 0 (Begin 0) ∷ counts 0 (0 ∷ []) (1 ∷ []) ++ counts 1 (1 ∷ []) (2 ∷ []) ++ counts 0 (2 ∷ []) (3 ∷ []) ++ line 0 End ∷ []
 
 -- a read of a value that isn't there
 abbrev pub stale : List LogLine

@@ -4,8 +4,8 @@ use Rattle.semantics.specs.Units.{is_commit}
 use Rattle.semantics.specs.Words.{fits_phase}
 use Rattle.logs.specs.Events.{Event, Take, Give, Access, Start, Join, Stop, Begin, End, LogLine}
 use Rattle.logs.specs.Logs.{Guard, kind_at}
-use Rattle.logs.specs.Memory.{Absent, Present, Ended, SharedCell, AtLock, AtPlace, AtThread, Content, Lock, Value, Thread, eq_cell, Cells, Memory}
-use Rattle.logs.specs.Turns.{cell_of, Turn, turn, blocks_after}
+use Rattle.logs.specs.Memory.{Absent, Present, Ended, SharedCell, AtLock, AtPlace, AtThread, Content, Lock, Value, Thread, eq_cell, Cells, LogMemory}
+use Rattle.logs.specs.Turns.{cell_of, Turn, turn_by_content, blocks_after}
 
 -- what is known after some lines: what cells hold, of which anything is known; for each thread how many blocks it is in, and whether the
 -- outermost of these made a Left or Other step
@@ -81,7 +81,7 @@ note_turn k line (Some d) (Some x) = note_kind (fits_phase (k.committed line.thr
 
 -- the turn of a line's event, by what is known
 abbrev pub event_turn : (ℕ → Guard) → Known → LogLine → Option Turn
-event_turn guard k line = turn (kind_at guard (known_locks k) line.thread line.event) line.event line.thread (cell_content k line.thread line.event)
+event_turn guard k line = turn_by_content (kind_at guard (known_locks k) line.thread line.event) line.event line.thread (cell_content k line.thread line.event)
 
 -- a thread that is there goes on
 abbrev pub note_there : (ℕ → Guard) → Known → LogLine → Content → Note
@@ -124,7 +124,7 @@ first_content cell [] = untold cell
 first_content cell (line ∷ lines) = if eq_cell (AtThread line.thread) cell then Thread Present else (if eq_cell (cell_of line.thread line.event) cell then assumed line.event else first_content cell lines)
 
 -- the memory before these lines
-abbrev pub memory_before : Known → List LogLine → Memory
+abbrev pub memory_before : Known → List LogLine → LogMemory
 memory_before k lines = record {
   cells = λ cell. unwrap_or (k.cells cell) (first_content cell lines);
   own = λ t. record { depth = k.depth t; rest = events_of t lines };

@@ -42,8 +42,8 @@ abbrev pub Cells : Type 0
 Cells = SharedCell → Content
 
 -- the cells, with this content in this one
-abbrev pub put : SharedCell → Content → Cells → Cells
-put at c cells = λ cell. if eq_cell at cell then c else cells cell
+abbrev pub content_put : SharedCell → Content → Cells → Cells
+content_put at c cells = λ cell. if eq_cell at cell then c else cells cell
 
 -- what is a thread's own: how many blocks it is in, and what the log says that it does from now on
 pub record Own : Type 0 where
@@ -54,6 +54,6 @@ pub record Own : Type 0 where
 abbrev pub put_own : ℕ → Own → (ℕ → Own) → ℕ → Own
 put_own t o owns = λ u. if t == u then o else owns u
 
-pub record Memory : Type 0 where
+pub record LogMemory : Type 0 where
   pub cells : Cells
   pub own : ℕ → Own

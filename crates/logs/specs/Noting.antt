@@ -5,7 +5,7 @@ use Rattle.logs.specs.Judging as logs
 use Rattle.logs.specs.Judging.{Known, Note, Stops, assumed, put_known, with_stepper, note_kind}
 use Rattle.logs.specs.Logs.{Guard, kind_at}
 use Rattle.logs.specs.Memory.{SharedCell, Cells, Content, Lock, Value, Thread, Absent, Present, Ended}
-use Rattle.logs.specs.Turns.{cell_of, Turn, turn}
+use Rattle.logs.specs.Turns.{cell_of, Turn, turn_by_content}
 use Rattle.semantics.specs.Units.{is_commit}
 use Rattle.semantics.specs.Words.{fits_phase}
 use Rattle.logs.specs.declared.judge.Refusal.{Refusal}
@@ -22,8 +22,8 @@ is_present (Thread Present) = true
 is_present (Thread Ended) = false
 
 -- what is known once a thread is there
-abbrev pub entered : ℕ → Known → Known
-entered t k = record { cells = with_stepper t k; depth = k.depth; committed = k.committed }
+abbrev pub known_with_thread : ℕ → Known → Known
+known_with_thread t k = record { cells = with_stepper t k; depth = k.depth; committed = k.committed }
 
 -- what cells hold, of which kinds of accesses ask: those of which nothing is known are free locks
 abbrev pub locks_in : (SharedCell → Option Content) → Cells
@@ -35,7 +35,7 @@ found_in cells t e = unwrap_or (cells (cell_of t e)) (assumed e)
 
 -- the turn of a line, by what is known of cells
 abbrev pub turn_in : (ℕ → Guard) → (SharedCell → Option Content) → LogLine → Option Turn
-turn_in guard cells line = turn (kind_at guard (locks_in cells) line.thread line.event) line.event line.thread (found_in cells line.thread line.event)
+turn_in guard cells line = turn_by_content (kind_at guard (locks_in cells) line.thread line.event) line.event line.thread (found_in cells line.thread line.event)
 
 -- what is known after a turn that leaves its thread in so many blocks
 abbrev pub after_in : Known → LogLine → ℕ → Turn → Known
@@ -61,6 +61,6 @@ refusal_data why.Impossible = logs.Impossible
 refusal_data why.Cut = logs.Cut
 
 -- a judge stops as the note says, or for want of memory
-abbrev pub IsStop : Note → Stop → Type 0
-IsStop note (Refused w) = note ≡ Stops (refusal_data w)
-IsStop note NoMemory = Unit {0}
+abbrev pub IsNotedStop : Note → Stop → Type 0
+IsNotedStop note (Refused w) = note ≡ Stops (refusal_data w)
+IsNotedStop note NoMemory = Unit {0}

@@ -7,6 +7,6 @@ paired zero n = 2 * n + 1
 paired (suc b) n = 2 * paired b n
 
 -- the number of a word
-abbrev pub number_of : List ℕ → ℕ
-number_of [] = 0
-number_of (b ∷ bs) = paired b (number_of bs)
+abbrev pub number_of_word : List ℕ → ℕ
+number_of_word [] = 0
+number_of_word (b ∷ bs) = paired b (number_of_word bs)

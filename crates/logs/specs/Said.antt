@@ -4,7 +4,7 @@ use Rattle.std.specs.Str.{bytes_eq}
 use Rattle.logs.specs.declared.lines.Deed.{Deed}
 use Rattle.logs.specs.declared.lines.Deed.TheVariants as given
 use Rattle.logs.specs.declared.lines.Said.{Said}
-use Rattle.logs.specs.Words.{is_word, before_space, behind_space}
+use Rattle.logs.specs.Words.{is_log_word, before_space, behind_space}
 
 -- what a thread did
 pub data DeedData : Type 0 where
@@ -69,7 +69,7 @@ spell s = s.thread ++ then_word (spell_deed s.deed)
 -- all its words are words
 abbrev pub AreWords : List (List ℕ) → Type 0
 AreWords [] = Unit {0}
-AreWords (w ∷ ws) = (is_word w ≡ true) × AreWords ws
+AreWords (w ∷ ws) = (is_log_word w ≡ true) × AreWords ws
 
 abbrev pub words_of : DeedData → List (List ℕ)
 words_of (Take l) = l ∷ []
@@ -115,24 +115,24 @@ third_read d x y z (Some rest) = None
 
 abbrev pub second_read : (d x y : List ℕ) → Option (List ℕ) → Option DeedData
 second_read d x y None = deed_with_two d x y
-second_read d x y (Some rest) = if is_word (before_space rest) then third_read d x y (before_space rest) (behind_space rest) else None
+second_read d x y (Some rest) = if is_log_word (before_space rest) then third_read d x y (before_space rest) (behind_space rest) else None
 
 abbrev pub first_read : (d x : List ℕ) → Option (List ℕ) → Option DeedData
 first_read d x None = deed_with_one d x
-first_read d x (Some rest) = if is_word (before_space rest) then second_read d x (before_space rest) (behind_space rest) else None
+first_read d x (Some rest) = if is_log_word (before_space rest) then second_read d x (before_space rest) (behind_space rest) else None
 
 abbrev pub deed_read : List ℕ → Option (List ℕ) → Option DeedData
 deed_read d None = bare_deed d
-deed_read d (Some rest) = if is_word (before_space rest) then first_read d (before_space rest) (behind_space rest) else None
+deed_read d (Some rest) = if is_log_word (before_space rest) then first_read d (before_space rest) (behind_space rest) else None
 
 -- what this thread's deed says
-abbrev pub said_by : List ℕ → Option DeedData → Option SaidData
-said_by t None = None
-said_by t (Some d) = Some (record { thread = t; deed = d })
+abbrev pub said_of_deed : List ℕ → Option DeedData → Option SaidData
+said_of_deed t None = None
+said_of_deed t (Some d) = Some (record { thread = t; deed = d })
 
 abbrev pub said_behind : List ℕ → Option (List ℕ) → Option SaidData
 said_behind t None = None
-said_behind t (Some rest) = if is_word t then said_by t (deed_read (before_space rest) (behind_space rest)) else None
+said_behind t (Some rest) = if is_log_word t then said_of_deed t (deed_read (before_space rest) (behind_space rest)) else None
 
 -- what a row of bytes says, where it is a line
 abbrev pub said_of : List ℕ → Option SaidData

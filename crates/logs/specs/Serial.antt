@@ -3,8 +3,8 @@ use Rattle.std.specs.Prelude.{◌≡◌, ◌≢◌, ℕ, ◌+◌, ◌==◌, List
 use Rattle.state.specs.declared.value.StepKind.TheVariants.{Both}
 use Rattle.logs.specs.Events.{LogLine}
 use Rattle.logs.specs.Judging.{events_of}
-use Rattle.logs.specs.Memory.{Absent, Present, Ended, AtThread, Content, Lock, Value, Thread, Cells, put}
-use Rattle.logs.specs.Turns.{cell_of, Turn, turn, blocks_after}
+use Rattle.logs.specs.Memory.{Absent, Present, Ended, AtThread, Content, Lock, Value, Thread, Cells, content_put}
+use Rattle.logs.specs.Turns.{cell_of, Turn, turn_by_content, blocks_after}
 
 -- what stands after some lines: what cells hold, and how many blocks each thread is in
 pub record Scene : Type 0 where
@@ -20,7 +20,7 @@ abbrev pub scene_after : Scene → LogLine → Option ℕ → Option Turn → Op
 scene_after s line None x = None
 scene_after s line (Some d) None = None
 scene_after s line (Some d) (Some x) = Some (record {
-  cells = put (cell_of line.thread line.event) x.content s.cells;
+  cells = content_put (cell_of line.thread line.event) x.content s.cells;
   depth = λ u. if line.thread == u then d else s.depth u;
 })
 
@@ -29,7 +29,7 @@ abbrev pub scene_at : Scene → LogLine → Content → Option Scene
 scene_at s line (Lock o) = None
 scene_at s line (Value v) = None
 scene_at s line (Thread Absent) = None
-scene_at s line (Thread Present) = scene_after s line (blocks_after line.event (s.depth line.thread)) (turn Both line.event line.thread (s.cells (cell_of line.thread line.event)))
+scene_at s line (Thread Present) = scene_after s line (blocks_after line.event (s.depth line.thread)) (turn_by_content Both line.event line.thread (s.cells (cell_of line.thread line.event)))
 scene_at s line (Thread Ended) = None
 
 -- what comes of a scene

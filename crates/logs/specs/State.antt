@@ -4,7 +4,7 @@ use Rattle.logs.specs.Judging.{Known}
 use Rattle.logs.specs.declared.judge.Judge.{Judge}
 use Rattle.logs.specs.declared.judge.Phase.{Phase}
 use Rattle.logs.specs.Views.{known_cells}
-use Rattle.logs.specs.Tables.{value_at}
+use Rattle.logs.specs.Tables.{value_in_table}
 
 -- in how many blocks a thread of this phase is; it is in none where nothing is known of it
 abbrev pub depth_of : Option Phase → ℕ
@@ -19,6 +19,6 @@ commit_of (Some p) = p.commit
 abbrev pub known_of : Judge → Known
 known_of judge = record {
   cells = known_cells judge.cells;
-  depth = λ t. depth_of (value_at judge.phases t);
-  committed = λ t. not (commit_of (value_at judge.phases t) == 0);
+  depth = λ t. depth_of (value_in_table judge.phases t);
+  committed = λ t. not (commit_of (value_in_table judge.phases t) == 0);
 }

@@ -87,15 +87,15 @@ own_turn x (Thread Present) = Some x
 own_turn x (Thread Ended) = None
 
 -- the turn of a thread's event, by what its cell holds; an access is of the given kind
-abbrev pub turn : StepKind → Event → ℕ → Content → Option Turn
-turn kind (Take l) t c = take_turn t c
-turn kind (Give l) t c = give_turn t c
-turn kind (Access p seen left) t c = access_turn kind seen left c
-turn kind (Start u) t c = start_turn c
-turn kind (Join u) t c = join_turn c
-turn kind Stop t c = own_turn (record { kind = Left; content = Thread Ended }) c
-turn kind (Begin name) t c = own_turn (record { kind = Both; content = Thread Present }) c
-turn kind End t c = own_turn (record { kind = Both; content = Thread Present }) c
+abbrev pub turn_by_content : StepKind → Event → ℕ → Content → Option Turn
+turn_by_content kind (Take l) t c = take_turn t c
+turn_by_content kind (Give l) t c = give_turn t c
+turn_by_content kind (Access p seen left) t c = access_turn kind seen left c
+turn_by_content kind (Start u) t c = start_turn c
+turn_by_content kind (Join u) t c = join_turn c
+turn_by_content kind Stop t c = own_turn (record { kind = Left; content = Thread Ended }) c
+turn_by_content kind (Begin name) t c = own_turn (record { kind = Both; content = Thread Present }) c
+turn_by_content kind End t c = own_turn (record { kind = Both; content = Thread Present }) c
 
 -- how many blocks a thread is in after an event; none where no block is open that could end
 abbrev pub blocks_after : Event → ℕ → Option ℕ

@@ -3,12 +3,12 @@ use Rattle.std.specs.Prelude.{ℕ, Bool, not, ◌==◌, ◌&&◌, List, [], ◌�
 use Rattle.std.specs.List.{list_all}
 
 -- whether a byte may stand in a word: it is no space, no control and no delete
-abbrev pub is_word_byte : ℕ → Bool
-is_word_byte b = nat_lt 32 b && not (b == 127)
+abbrev pub is_log_word_byte : ℕ → Bool
+is_log_word_byte b = nat_lt 32 b && not (b == 127)
 
 -- whether these bytes are a word: 1 to 255 of them, each of which may stand in one
-abbrev pub is_word : List ℕ → Bool
-is_word w = nat_lt 0 (length w) && (nat_le (length w) 255 && list_all is_word_byte w)
+abbrev pub is_log_word : List ℕ → Bool
+is_log_word w = nat_lt 0 (length w) && (nat_le (length w) 255 && list_all is_log_word_byte w)
 
 -- the bytes before the first space, or all
 abbrev pub before_space : List ℕ → List ℕ

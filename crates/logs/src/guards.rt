@@ -1,10 +1,10 @@
 //! What is said to guard places.
 ghost use Rattle.std.specs.Prelude.{◌≡◌, ℕ, if◌then◌else◌, unwrap_or, option_map, option_copied};
-ghost use Rattle.logs.specs.Logs.{holds_in_log, access_kind, Unguarded};
+ghost use Rattle.logs.specs.Logs.{holds_in_log, guarded_access_kind, Unguarded};
 ghost use Rattle.logs.specs.Memory.{Lock};
 ghost use Rattle.logs.specs.Views.{known_cells, content_data, guards_data};
 ghost use Rattle.logs.specs.Noting.{locks_in};
-ghost use Rattle.logs.specs.Numbers.{number_of};
+ghost use Rattle.logs.specs.Numbers.{number_of_word};
 
 use crate::memory::{Cell, Cells, Content};
 use crate::same::is_same;
@@ -42,7 +42,7 @@ impl Guards {
 
 /// Whether a lock of which this is known is held by a thread.
 fn is_held(content: Option<&Content>, thread: &[u8]) -> bool
-    ensures { result ≡ holds_in_log (number_of thread.now) (unwrap_or (option_map content_data (option_copied content.entry)) (Lock None)) }
+    ensures { result ≡ holds_in_log (number_of_word thread.now) (unwrap_or (option_map content_data (option_copied content.entry)) (Lock None)) }
 {
     match content {
         Some(content) => match content {
@@ -66,7 +66,7 @@ fn guarded(is_guarded: bool) -> StepKind
 
 /// The kind of a thread's access to a place.
 pub fn access_kind(guards: &Guards, cells: &Cells, place: &[u8], thread: &[u8]) -> StepKind
-    ensures { result ≡ access_kind (guards_data guards.now (number_of place.now)) (locks_in (known_cells cells.now)) (number_of thread.now) }
+    ensures { result ≡ guarded_access_kind (guards_data guards.now (number_of_word place.now)) (locks_in (known_cells cells.now)) (number_of_word thread.now) }
 {
     match guards.places.get(place) {
         Some(guard) => match guard {

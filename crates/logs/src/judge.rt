@@ -1,11 +1,11 @@
 //! The judge.
 ghost use Rattle.std.specs.Prelude.{◌≡◌, ◌<◌, ◌≢◌, ◌⊎◌, ℕ, None, not, ◌==◌, ◌&&◌, ◌||◌, Some, IfOk, OnOk, MatchOption, MatchResult, option_map, unwrap_or};
-ghost use Rattle.logs.specs.LogJudgeEvents.{event_of, line_of};
-ghost use Rattle.logs.specs.Noting.{locks_in, turn_in, after_in, note_in, is_present, IsStop};
+ghost use Rattle.logs.specs.LogJudgeEvents.{event_of, log_line_of};
+ghost use Rattle.logs.specs.Noting.{locks_in, turn_in, after_in, note_in, is_present, IsNotedStop};
 ghost use Rattle.logs.specs.State.{known_of};
 ghost use Rattle.logs.specs.Views.{known_cells, guards_data, turn_data};
 ghost use Rattle.logs.specs.Said.{deed_data, said_data};
-ghost use Rattle.logs.specs.Numbers.{number_of};
+ghost use Rattle.logs.specs.Numbers.{number_of_word};
 ghost use Rattle.logs.specs.Judging as logs;
 ghost use Rattle.logs.specs.Logs.{Guard, kind_at};
 ghost use Rattle.logs.specs.Memory as memory;
@@ -75,7 +75,7 @@ pub struct Judge {
 
 /// The kind of an event, where it is an access.
 fn kind_of(guards: &Guards, cells: &Cells, said: &Said<'_>) -> StepKind
-    ensures { result ≡ kind_at (guards_data guards.now) (locks_in (known_cells cells.now)) (number_of said.now.thread.now) (event_of (deed_data said.now.deed)) }
+    ensures { result ≡ kind_at (guards_data guards.now) (locks_in (known_cells cells.now)) (number_of_word said.now.thread.now) (event_of (deed_data said.now.deed)) }
 {
     match said.deed {
         Deed::Read(place, _) => access_kind(guards, cells, place, said.thread),
@@ -139,7 +139,7 @@ fn turn_of(
     cells: &Cells,
     said: &Said<'_>,
 ) -> Result<Option<Turn>, NoMemory>
-    ensures { IfOk result (λ turn. option_map turn_data turn ≡ turn_in (guards_data guards.now) (known_cells cells.now) (line_of (said_data said.now))) }
+    ensures { IfOk result (λ turn. option_map turn_data turn ≡ turn_in (guards_data guards.now) (known_cells cells.now) (log_line_of (said_data said.now))) }
 {
     let kind = kind_of(guards, cells, said);
     match cells.get(cell_of(said)) {
@@ -164,8 +164,8 @@ impl Judge {
 
     /// In how many blocks a thread is.
     pub fn phase(&self, thread: &[u8]) -> Phase
-        ensures depth { result.depth ≡ (known_of self.now).depth (number_of thread.now) }
-        ensures committed { not (result.commit == 0) ≡ (known_of self.now).committed (number_of thread.now) }
+        ensures depth { result.depth ≡ (known_of self.now).depth (number_of_word thread.now) }
+        ensures committed { not (result.commit == 0) ≡ (known_of self.now).committed (number_of_word thread.now) }
     {
         match self.phases.get(thread) {
             Some(phase) => *phase,
@@ -178,7 +178,7 @@ impl Judge {
 
     /// Whether a thread is there.
     fn is_there(&self, thread: &[u8]) -> bool
-        ensures { result ≡ is_present (unwrap_or ((known_of self.now).cells (memory.AtThread (number_of thread.now))) (memory.Thread memory.Present)) }
+        ensures { result ≡ is_present (unwrap_or ((known_of self.now).cells (memory.AtThread (number_of_word thread.now))) (memory.Thread memory.Present)) }
     {
         match self.cells.get(Cell::Thread(thread)) {
             Some(content) => matches!(content, Content::Present),
@@ -189,9 +189,9 @@ impl Judge {
     /// Sees that the thread of a line is there, and in how many blocks it is after the line.
     fn enter(&mut self, alloc: Global, said: &Said<'_>) -> Result<Ready, Stop>
         ensures noted { (guard : ℕ → Guard) → MatchResult result
-            (λ ready. logs.line_noted guard (known_of self.old) (line_of (said_data said.now)) ≡ note_in guard (known_of self.new) (line_of (said_data said.now)) ready.depth)
-            (λ stop. IsStop (logs.line_noted guard (known_of self.old) (line_of (said_data said.now))) stop) }
-        ensures before { IfOk result (λ ready. not (ready.before.commit == 0) ≡ (known_of self.new).committed (number_of said.now.thread.now)) }
+            (λ ready. logs.line_noted guard (known_of self.old) (log_line_of (said_data said.now)) ≡ note_in guard (known_of self.new) (log_line_of (said_data said.now)) ready.depth)
+            (λ stop. IsNotedStop (logs.line_noted guard (known_of self.old) (log_line_of (said_data said.now))) stop) }
+        ensures before { IfOk result (λ ready. not (ready.before.commit == 0) ≡ (known_of self.new).committed (number_of_word said.now.thread.now)) }
     {
         if !self.is_there(said.thread) {
             return Err(Stop::Refused(Refusal::HasEnded));
@@ -220,8 +220,8 @@ impl Judge {
         turn: Turn,
     ) -> Result<(), NoMemory>
         requires counted { 0 < line }
-        requires before { not (ready.before.commit == 0) ≡ (known_of self.old).committed (number_of said.now.thread.now) }
-        ensures { OnOk result (known_of self.new ≡ after_in (known_of self.old) (line_of (said_data said.now)) ready.depth (turn_data turn)) }
+        requires before { not (ready.before.commit == 0) ≡ (known_of self.old).committed (number_of_word said.now.thread.now) }
+        ensures { OnOk result (known_of self.new ≡ after_in (known_of self.old) (log_line_of (said_data said.now)) ready.depth (turn_data turn)) }
     {
         let Turn { kind, content } = turn;
         let commit = commit_after(ready.before, ready.depth, kind, line);
@@ -249,8 +249,8 @@ impl Judge {
     ) -> Result<(), Stop>
         requires { 0 < line }
         ensures { MatchResult result
-            (λ _. logs.line_noted (guards_data guards.now) (known_of self.old) (line_of (said_data said.now)) ≡ logs.Goes (known_of self.new))
-            (λ stop. IsStop (logs.line_noted (guards_data guards.now) (known_of self.old) (line_of (said_data said.now))) stop) }
+            (λ _. logs.line_noted (guards_data guards.now) (known_of self.old) (log_line_of (said_data said.now)) ≡ logs.Goes (known_of self.new))
+            (λ stop. IsNotedStop (logs.line_noted (guards_data guards.now) (known_of self.old) (log_line_of (said_data said.now))) stop) }
     {
         let ready = match self.enter(alloc, said) {
             Ok(ready) => ready,
@@ -274,7 +274,7 @@ impl Judge {
 
     /// A thread that is inside a block.
     pub fn open_thread(&self) -> Option<&[u8]>
-        ensures { MatchOption result ((t : ℕ) → (known_of self.now).depth t ≡ 0) (λ thread. (known_of self.now).depth (number_of thread.now) ≢ 0) }
+        ensures { MatchOption result ((t : ℕ) → (known_of self.now).depth t ≡ 0) (λ thread. (known_of self.now).depth (number_of_word thread.now) ≢ 0) }
     {
         for place in 0..self.phases.len() {
             let Some((thread, _)) = self.phases.entry(place) else {

@@ -3,12 +3,12 @@
 ghost use Rattle.std.specs.Prelude.{◌≡◌, ℕ, List, [], Some, None, slice_get};
 ghost use Rattle.reduction.specs.Movers.{HasMovers};
 ghost use Rattle.reduction.specs.Serial.{NobodyInside, IsSerialOrder};
-ghost use Rattle.reduction.specs.Systems.{run_from, entries_from, written_from};
-ghost use Rattle.logs.specs.Examples.{stop_of, counter_guard, counter, twice, stale};
+ghost use Rattle.reduction.specs.Systems.{system_run_from, system_entries_from, written_from};
+ghost use Rattle.logs.specs.Examples.{refusal_of_note, counter_guard, counter_log, lock_taken_twice, stale};
 ghost use Rattle.logs.specs.Events.{LogLine, order_of};
 ghost use Rattle.logs.specs.Judging.{Known, Impossible, Cut, Goes, nothing_known, judged, memory_before};
 ghost use Rattle.logs.specs.Logs.{Guard, logs};
-ghost use Rattle.logs.specs.Memory.{Memory};
+ghost use Rattle.logs.specs.Memory.{LogMemory};
 ghost use Rattle.logs.specs.Serial.{IsSerialLog};
 ghost use Rattle.semantics.specs.Units.{Entry, units, word_of};
 ghost use Rattle.semantics.specs.Words.{IsReducible};
@@ -18,8 +18,8 @@ ghost use Rattle.semantics.specs.Words.{IsReducible};
 /// sees the value that it saw, the end is the same, and no block is interrupted.
 pub fn logs_serialise()
     ensures movers { (guard : ℕ → Guard) → HasMovers (logs guard) (λ q. Unit {0}) }
-    ensures serial { (guard : ℕ → Guard) (start end : Memory) (s : List ℕ) → run_from (logs guard) start s ≡ Some end → NobodyInside (logs guard) end →
-        ((n : ℕ) (u : List Entry) → slice_get (units (entries_from (logs guard) start 0 s)) n ≡ Some u → IsReducible (word_of u)) →
+    ensures serial { (guard : ℕ → Guard) (start end : LogMemory) (s : List ℕ) → system_run_from (logs guard) start s ≡ Some end → NobodyInside (logs guard) end →
+        ((n : ℕ) (u : List Entry) → slice_get (units (system_entries_from (logs guard) start 0 s)) n ≡ Some u → IsReducible (word_of u)) →
         IsSerialOrder (logs guard) start s (written_from (logs guard) start s) end }
 {}
 
@@ -35,7 +35,7 @@ pub fn judged_logs_are_serial()
 /// Two threads count under a lock: the log is judged to its end. A block that takes the lock twice can be cut; and no read sees
 /// a value that isn't there.
 pub fn examples_of_logs()
-    ensures counter { stop_of (judged counter_guard nothing_known counter) ≡ None }
-    ensures twice { stop_of (judged counter_guard nothing_known twice) ≡ Some Cut }
-    ensures stale { stop_of (judged counter_guard nothing_known stale) ≡ Some Impossible }
+    ensures counter { refusal_of_note (judged counter_guard nothing_known counter_log) ≡ None }
+    ensures twice { refusal_of_note (judged counter_guard nothing_known lock_taken_twice) ≡ Some Cut }
+    ensures stale { refusal_of_note (judged counter_guard nothing_known stale) ≡ Some Impossible }
 {}

@@ -1,7 +1,7 @@
 //! A table of values by word.
 ghost use Rattle.std.specs.Prelude.{◌≡◌, ℕ, OnOk, length, option_copied, option_map, slice_get};
-ghost use Rattle.logs.specs.Numbers.{number_of};
-ghost use Rattle.logs.specs.Tables.{value_at, put_at};
+ghost use Rattle.logs.specs.Numbers.{number_of_word};
+ghost use Rattle.logs.specs.Tables.{value_in_table, values_with};
 
 use indexmap::IndexMap;
 use std::alloc::{AllocError as NoMemory, Global};
@@ -15,7 +15,7 @@ pub struct Table<V> {
 impl<V: Drop> Table<V> {
     /// A table with no word in it.
     pub fn new(alloc: Global) -> Table<V>
-        ensures { (n : ℕ) → value_at result n ≡ None }
+        ensures { (n : ℕ) → value_in_table result n ≡ None }
     {
         Table {
             values: IndexMap::new(alloc),
@@ -24,14 +24,14 @@ impl<V: Drop> Table<V> {
 
     /// The value of a word, where it has one.
     pub fn get(&self, word: &[u8]) -> Option<&V>
-        ensures { option_copied result ≡ value_at self.now (number_of word.now) }
+        ensures { option_copied result ≡ value_in_table self.now (number_of_word word.now) }
     {
         self.values.get(word)
     }
 
     /// Gives a word this value.
     pub fn put(&mut self, alloc: Global, word: &[u8], value: V) -> Result<(), NoMemory>
-        ensures { OnOk result ((n : ℕ) → value_at self.new n ≡ put_at (number_of word.now) value (value_at self.old) n) }
+        ensures { OnOk result ((n : ℕ) → value_in_table self.new n ≡ values_with (number_of_word word.now) value (value_in_table self.old) n) }
     {
         let key = Vec::from_slice(alloc, word)?;
         match self.values.insert(key, value) {

@@ -4,7 +4,7 @@ ghost use Rattle.std.specs.Str.{bytes_eq};
 ghost use Rattle.logs.specs.Said.{deed_data};
 ghost use Rattle.logs.specs.LogJudgeEvents.{event_of};
 ghost use Rattle.logs.specs.Views.{cell_data, content_data, turn_data};
-ghost use Rattle.logs.specs.Numbers.{number_of};
+ghost use Rattle.logs.specs.Numbers.{number_of_word};
 ghost use Rattle.logs.specs.Judging.{assumed as assumed_of};
 ghost use Rattle.logs.specs.Memory as memory;
 ghost use Rattle.logs.specs.Turns as logs;
@@ -31,7 +31,7 @@ fn made(kind: StepKind, content: Content) -> Option<Turn>
 
 /// The cell of an event.
 pub fn cell_of<'a>(said: &Said<'a>) -> Cell<'a>
-    ensures { cell_data result ≡ logs.cell_of (number_of said.now.thread.now) (event_of (deed_data said.now.deed)) }
+    ensures { cell_data result ≡ logs.cell_of (number_of_word said.now.thread.now) (event_of (deed_data said.now.deed)) }
 {
     match said.deed {
         Deed::Take(lock) => Cell::Lock(lock),
@@ -70,7 +70,7 @@ pub fn assumed(alloc: Global, deed: Deed<'_>) -> Result<Content, NoMemory>
 /// A lock after a thread took it, so often once more.
 fn held(alloc: Global, kind: StepKind, thread: &[u8], more: u64) -> Result<Option<Turn>, NoMemory>
     ensures { IfOk result (λ turn. option_map turn_data turn ≡
-        Some (record { kind = kind; content = memory.Lock (Some (record { by = number_of thread.now; more = more })) })) }
+        Some (record { kind = kind; content = memory.Lock (Some (record { by = number_of_word thread.now; more = more })) })) }
 {
     let by = Vec::from_slice(alloc, thread)?;
     let content = Content::Held(by, more);
@@ -79,7 +79,7 @@ fn held(alloc: Global, kind: StepKind, thread: &[u8], more: u64) -> Result<Optio
 
 /// Takes a lock that is free, or once more one that its thread holds.
 fn take_turn(alloc: Global, thread: &[u8], found: &Content) -> Result<Option<Turn>, NoMemory>
-    ensures { IfOk result (λ turn. option_map turn_data turn ≡ logs.take_turn (number_of thread.now) (content_data found.now)) }
+    ensures { IfOk result (λ turn. option_map turn_data turn ≡ logs.take_turn (number_of_word thread.now) (content_data found.now)) }
 {
     match found {
         Content::Free => held(alloc, StepKind::Right, thread, 0),
@@ -98,7 +98,7 @@ fn take_turn(alloc: Global, thread: &[u8], found: &Content) -> Result<Option<Tur
 
 /// Gives a lock back once.
 fn give_turn(alloc: Global, thread: &[u8], found: &Content) -> Result<Option<Turn>, NoMemory>
-    ensures { IfOk result (λ turn. option_map turn_data turn ≡ logs.give_turn (number_of thread.now) (content_data found.now)) }
+    ensures { IfOk result (λ turn. option_map turn_data turn ≡ logs.give_turn (number_of_word thread.now) (content_data found.now)) }
 {
     match found {
         Content::Held(by, more) => {
@@ -245,7 +245,7 @@ pub fn turn_by(
     found: &Content,
 ) -> Result<Option<Turn>, NoMemory>
     ensures { IfOk result (λ turn. option_map turn_data turn ≡
-        logs.turn kind (event_of (deed_data said.now.deed)) (number_of said.now.thread.now) (content_data found.now)) }
+        logs.turn_by_content kind (event_of (deed_data said.now.deed)) (number_of_word said.now.thread.now) (content_data found.now)) }
 {
     match said.deed {
         Deed::Take(_) => take_turn(alloc, said.thread, found),

@@ -1,7 +1,7 @@
 //! Words, and bytes cut at spaces.
 ghost use Rattle.std.specs.Prelude.{◌≡◌, ◌<◌, ◌==◌, length, position, IfSome, option_map};
 ghost use Rattle.std.specs.List.{list_all};
-ghost use Rattle.logs.specs.Words.{is_word as is_word_in, is_word_byte as may_stand, before_space, behind_space};
+ghost use Rattle.logs.specs.Words.{is_log_word as is_word_in, is_log_word_byte as may_stand, before_space, behind_space};
 
 /// The most bytes that a word has.
 const LONGEST: usize = 255;

@@ -105,11 +105,11 @@ module _ (P : Program) (entry room : List ℕ) (see : Shared) (t : ℕ) (slots o
   combines instr None is = tt
   combines instr (Some v) is = inl (refl, is ∙ ap Some (omega (arith, dropped_length 2 ops)))
 
-  and_then : (other : ℕ) (b : Bool) → Follows (i.AndThen other) (C.and_then next other b)
+  and_then : (other : ℕ) (b : Bool) → Follows (i.AndThen other) (C.branches_and next other b)
   and_then other true = inr (refl, under_length ops)
   and_then other false = inl (refl, replaced)
 
-  or_else : (other : ℕ) (b : Bool) → Follows (i.OrElse other) (C.or_else next other b)
+  or_else : (other : ℕ) (b : Bool) → Follows (i.OrElse other) (C.branches_or next other b)
   or_else other true = inl (refl, replaced)
   or_else other false = inr (refl, under_length ops)
 
@@ -179,7 +179,7 @@ module _ (P : Program) (entry room : List ℕ) (see : Shared) (t : ℕ) (slots o
   takes_held a hold true = (inl (refl, one_less), refl)
   takes_held a hold false = tt
 
-  takes : (a : Address) (o : Option Hold) → Follows i.Acquire (C.takes t next a o)
+  takes : (a : Address) (o : Option Hold) → Follows i.Acquire (C.takes_lock t next a o)
   takes a None = (inl (refl, one_less), refl)
   takes a (Some hold) = takes_held a hold (hold.holder == t)
 
@@ -191,7 +191,7 @@ module _ (P : Program) (entry room : List ℕ) (see : Shared) (t : ℕ) (slots o
   gives_held a hold false = tt
   gives_held a hold true = inl (refl, refl)
 
-  gives : (a : Address) (o : Option Hold) → Follows i.Release (C.gives t next a o)
+  gives : (a : Address) (o : Option Hold) → Follows i.Release (C.gives_lock t next a o)
   gives a None = tt
   gives a (Some hold) = gives_held a hold (hold.holder == t)
 
@@ -207,7 +207,7 @@ module _ (P : Program) (entry room : List ℕ) (see : Shared) (t : ℕ) (slots o
   starts_run a None = tt
   starts_run a (Some m) = (inl (refl, one_less), refl)
 
-  starts : (o : Option Address) → Follows i.Start (C.starts P see next o)
+  starts : (o : Option Address) → Follows i.Start (C.starts_thread P see next o)
   starts None = tt
   starts (Some a) = starts_run a (run_of P (object_class (see.object_at a)))
 

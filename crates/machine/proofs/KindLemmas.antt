@@ -11,7 +11,7 @@ use Rattle.compile.specs.declared.stack.Code.{Code}
 use Rattle.semantics.specs.Step.{Shared, outcome_kind}
 use Rattle.machine.specs.declared.deed.Deed.{Deed}
 use Rattle.machine.specs.declared.deed.Deed.TheVariants as deed
-use Rattle.machine.specs.CodeMachine.{done, enter_first, code_turn, deed_at}
+use Rattle.machine.specs.CodeMachine.{done, ready_thread_enters, code_turn, deed_at}
 use Rattle.machine.specs.declared.deed.Turn.{Turn}
 use Rattle.machine.specs.declared.deed.Turn.TheVariants as turn
 use Rattle.machine.specs.Turns.{cell_deed, line_deed, kind_done, cell_kind, first_turn, deed_turn, cell_turn}
@@ -50,7 +50,7 @@ running_kind P code entry room see t (f ∷ fs) =
     done_kind P see t (code_frame f) (map code_frame fs) (deed_at P entry room see t (code_frame f) (length (map code_frame (f ∷ fs))) (slice_get code f.place))
     ∙ ap (kind_done P see t) (line_same P entry room see t f fs (slice_get code f.place))
 
-first_kind : (a : Address) (m : ℕ) (o : Option Method) (p : Option ℕ) → outcome_kind (enter_first a m o p) ≡ Some Both
+first_kind : (a : Address) (m : ℕ) (o : Option Method) (p : Option ℕ) → outcome_kind (ready_thread_enters a m o p) ≡ Some Both
 first_kind a m None p = refl
 first_kind a m (Some method) None = refl
 first_kind a m (Some method) (Some place) = refl

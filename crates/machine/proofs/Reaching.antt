@@ -25,7 +25,7 @@ use Rattle.semantics.specs.Step.{Shared, OutcomeOf, Outcome, has_result, seen_by
 use Rattle.machine.specs.declared.deed.StepEnd.{StepEnd}
 use Rattle.machine.specs.declared.deed.Deed.{Deed}
 use Rattle.machine.specs.declared.deed.Deed.TheVariants as deed
-use Rattle.machine.specs.CodeMachine.{code_frame_at, entered, thread_after, returned_to, deed_at, done, enter_first, code_turn, code_outcome}
+use Rattle.machine.specs.CodeMachine.{code_frame_at, entered, thread_after, returned_to, deed_at, done, ready_thread_enters, code_turn, code_outcome}
 use Rattle.machine.specs.Deeds.{seen_of}
 use Rattle.machine.specs.Lean.{takes_memory, next_takes, step_takes, instr_takes}
 use Rattle.machine.specs.Likeness.{with_work, IsLeft, FramesStand, no_frames, more_frames, ThreadStands, ready_stands, running_stands, done_stands, faulted_stands, ThreadsStand, no_threads, more_threads, StateStands}
@@ -236,7 +236,7 @@ module _ (P : Program) (code : List Code) (entry room : List ℕ) where
     no_frames_reached : (after : ThreadOf CodeFrame) → AreFramesReached P code entry room (frames_in after) → new.threads ≡ slice_set old.threads t after → AllReached P code entry room new.threads
     no_frames_reached after one is = subst (AllReached P code entry room) (sym is) (set_reached old.threads t after all one)
 
-    first_reached : (a : Address) (m : ℕ) (o : Option Method) (e : Option ℕ) → slice_get P.methods m ≡ o → slice_get entry m ≡ e → IsTaken t (Ok tt) new old (enter_first a m o e) → AllReached P code entry room new.threads
+    first_reached : (a : Address) (m : ℕ) (o : Option Method) (e : Option ℕ) → slice_get P.methods m ≡ o → slice_get entry m ≡ e → IsTaken t (Ok tt) new old (ready_thread_enters a m o e) → AllReached P code entry room new.threads
     first_reached a m None e there begins is = no_frames_reached (Faulted fault.Null []) tt (ap (λ s. s.threads) is)
     first_reached a m (Some method) None there begins is = no_frames_reached (Faulted fault.Null []) tt (ap (λ s. s.threads) is)
     first_reached a m (Some method) (Some place) there begins is =

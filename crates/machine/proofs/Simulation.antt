@@ -88,12 +88,12 @@ module _ (P : Program) (code : List Code) (entry room : List ℕ) (is_code : IsC
       binary_like (Some v) k = goes Both f.slots (v ∷ under (under f.operands)) next f.taken rest Nothing k
 
       and_like : (e : Expr) (other : ℕ) (b : Bool) → Stands R code next f.taken rest → Stands R code other f.taken (Ex e ∷ rest)
-          → Like (C.and_then next other b) (D.and_then P see t g gs rest e b)
+          → Like (C.branches_and next other b) (D.and_then P see t g gs rest e b)
       and_like e other true k j = goes Both f.slots (under f.operands) other f.taken (Ex e ∷ rest) Nothing j
       and_like e other false k j = goes Both f.slots (value.Truth false ∷ under f.operands) next f.taken rest Nothing k
 
       or_like : (e : Expr) (other : ℕ) (b : Bool) → Stands R code next f.taken rest → Stands R code other f.taken (Ex e ∷ rest)
-          → Like (C.or_else next other b) (D.or_else P see t g gs rest e b)
+          → Like (C.branches_or next other b) (D.or_else P see t g gs rest e b)
       or_like e other true k j = goes Both f.slots (value.Truth true ∷ under f.operands) next f.taken rest Nothing k
       or_like e other false k j = goes Both f.slots (under f.operands) other f.taken (Ex e ∷ rest) Nothing j
 
@@ -197,7 +197,7 @@ module _ (P : Program) (code : List Code) (entry room : List ℕ) (is_code : IsC
       take_held_like s a hold false lock k = both_wait a hold.holder
 
       take_like : (s : Stmt) (a : Address) (o : Option Hold) → see.lock_at a ≡ o → Stands R code next (a ∷ f.taken) (St s ∷ Act (W.Release a) ∷ rest)
-          → Like (C.takes t next a o) (D.take P see t g gs rest s a o)
+          → Like (C.takes_lock t next a o) (D.take P see t g gs rest s a o)
       take_like s a None lock k = takes_like Right s a false None (record { holder = t; count = 1 }) lock refl refl k
       take_like s a (Some hold) lock k = take_held_like s a hold (hold.holder == t) lock k
 
@@ -224,7 +224,7 @@ module _ (P : Program) (code : List Code) (entry room : List ℕ) (is_code : IsC
           (give_kind a (record hold { count = hold.count - 1 }) (nat_lt 1 hold.count) k)
 
       give_like : (a : Address) (o : Option Hold) → see.lock_at a ≡ o → Stands R code next (rest_of f.taken) rest
-          → Like (C.gives t next a o) (D.release P see t g gs rest a o)
+          → Like (C.gives_lock t next a o) (D.release P see t g gs rest a o)
       give_like a None lock k = faults_like fault.Null
       give_like a (Some hold) lock k = give_held_like a hold (hold.holder == t) lock k
 
@@ -232,7 +232,7 @@ module _ (P : Program) (code : List Code) (entry room : List ℕ) (is_code : IsC
       start_run_like a None k = faults_like fault.Null
       start_run_like a (Some m) k = goes Other f.slots (under f.operands) next f.taken rest (Starts a m) k
 
-      start_like : (o : Option Address) → Stands R code next f.taken rest → Like (C.starts P see next o) (D.start P see t g gs rest o)
+      start_like : (o : Option Address) → Stands R code next f.taken rest → Like (C.starts_thread P see next o) (D.start P see t g gs rest o)
       start_like None k = faults_like fault.Null
       start_like (Some a) k = start_run_like a (run_of P (object_class (see.object_at a))) k
 
@@ -295,13 +295,13 @@ module _ (P : Program) (code : List Code) (entry room : List ℕ) (is_code : IsC
         (act_like once.action once.rest once.line once.agree))
 
   -- a ready thread enters its method
-  first_like : (a : Address) (m : ℕ) (o : Option Method) → slice_get P.methods m ≡ o → OutcomeStands P code (C.enter_first a m o (slice_get entry m)) (D.enter_first P see t a m o)
+  first_like : (a : Address) (m : ℕ) (o : Option Method) → slice_get P.methods m ≡ o → OutcomeStands P code (C.ready_thread_enters a m o (slice_get entry m)) (D.enter_first P see t a m o)
   first_like a m None there = both_move Both (Faulted fault.Null []) (Faulted fault.Null []) Nothing (faulted_stands fault.Null [] [] no_frames)
   first_like a m (Some method) there =
       let e = same_place P.methods entry m method is_code.entries there in
       let callee = code_frame_at m method (value.Ref a) [] e.0 in
       let begins = subst (λ b. Stands b code e.0 [] (St method.body ∷ Act W.Ret ∷ [])) (sym (ap has_result there)) (is_code.stands m e.0 method there e.1) in
-      subst (λ o. OutcomeStands P code (C.enter_first a m (Some method) o) (D.enter_first P see t a m (Some method))) (sym e.1)
+      subst (λ o. OutcomeStands P code (C.ready_thread_enters a m (Some method) o) (D.enter_first P see t a m (Some method))) (sym e.1)
       (both_move Both (Running (callee ∷ [])) (Running (new_frame m method (value.Ref a) [] ∷ [])) Nothing
       (running_stands _ _ (more_frames callee (St method.body ∷ Act W.Ret ∷ []) [] [] begins no_frames)))
 

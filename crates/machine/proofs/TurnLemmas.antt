@@ -23,7 +23,7 @@ use Rattle.machine.specs.declared.deed.Deed.TheVariants as deed
 use Rattle.machine.specs.declared.deed.Turn.{Turn}
 use Rattle.machine.specs.declared.deed.Turn.TheVariants as turn
 use Rattle.machine.specs.CodeMachine as C
-use Rattle.machine.specs.CodeMachine.{deed_of, done, code_turn, code_frame_at, entered, next_object, enter_first}
+use Rattle.machine.specs.CodeMachine.{deed_of, done, code_turn, code_frame_at, entered, next_object, ready_thread_enters}
 use Rattle.machine.specs.Deeds.{Can, IsOwned, called_thread, deed_thread, deed_heap, deed_locks, deed_output}
 use Rattle.machine.specs.Reasons.{IsReason}
 use Rattle.machine.specs.declared.deed.StepEnd.TheVariants as ends
@@ -84,11 +84,11 @@ module _ (P : Program) (see : Shared) (t : ℕ) where
     can_combines next None = tt
     can_combines next (Some v) = tt
 
-    can_and : (next other : ℕ) (b : Bool) → Can P see t slots (C.and_then next other b)
+    can_and : (next other : ℕ) (b : Bool) → Can P see t slots (C.branches_and next other b)
     can_and next other true = tt
     can_and next other false = tt
 
-    can_or : (next other : ℕ) (b : Bool) → Can P see t slots (C.or_else next other b)
+    can_or : (next other : ℕ) (b : Bool) → Can P see t slots (C.branches_or next other b)
     can_or next other true = tt
     can_or next other false = tt
 
@@ -146,7 +146,7 @@ module _ (P : Program) (see : Shared) (t : ℕ) where
     can_take_held next a hold true there is = subst (IsOwned t) (sym there) (grind (arith, nat_tests))
     can_take_held next a hold false there is = tt
 
-    can_take : (next : ℕ) (a : Address) (o : Option Hold) → see.lock_at a ≡ o → Can P see t slots (C.takes t next a o)
+    can_take : (next : ℕ) (a : Address) (o : Option Hold) → see.lock_at a ≡ o → Can P see t slots (C.takes_lock t next a o)
     can_take next a None there = subst (IsOwned t) (sym there) tt
     can_take next a (Some hold) there = can_take_held next a hold (hold.holder == t) there refl
 
@@ -158,7 +158,7 @@ module _ (P : Program) (see : Shared) (t : ℕ) where
     can_give_held next a hold false there = tt
     can_give_held next a hold true there = ap is_some there
 
-    can_give : (next : ℕ) (a : Address) (o : Option Hold) → see.lock_at a ≡ o → Can P see t slots (C.gives t next a o)
+    can_give : (next : ℕ) (a : Address) (o : Option Hold) → see.lock_at a ≡ o → Can P see t slots (C.gives_lock t next a o)
     can_give next a None there = tt
     can_give next a (Some hold) there = can_give_held next a hold (hold.holder == t) there
 
@@ -174,7 +174,7 @@ module _ (P : Program) (see : Shared) (t : ℕ) where
     can_run next a None = tt
     can_run next a (Some m) = tt
 
-    can_start : (next : ℕ) (o : Option Address) → Can P see t slots (C.starts P see next o)
+    can_start : (next : ℕ) (o : Option Address) → Can P see t slots (C.starts_thread P see next o)
     can_start next None = tt
     can_start next (Some a) = can_run next a (run_of P (object_class (see.object_at a)))
 
@@ -218,7 +218,7 @@ module _ (P : Program) (see : Shared) (t : ℕ) where
   deed_is f below (deed.Prints n place) can = (f, below, refl, refl, refl, can)
   deed_is f below (deed.Starts a m place) can = (f, below, refl, refl)
 
-  first_is : (a : Address) (m : ℕ) (o : Option Method) (entry room : Option ℕ) → slice_get P.methods m ≡ o → TurnIs (Some (Ready a m)) (enter_first a m o entry) (first_turn a m o entry room)
+  first_is : (a : Address) (m : ℕ) (o : Option Method) (entry room : Option ℕ) → slice_get P.methods m ≡ o → TurnIs (Some (Ready a m)) (ready_thread_enters a m o entry) (first_turn a m o entry room)
   first_is a m None entry room there = (Ready a m, refl, refl, refl)
   first_is a m (Some method) None room there = (Ready a m, refl, refl, refl)
   first_is a m (Some method) (Some entry) None there = (method, refl, there, refl)

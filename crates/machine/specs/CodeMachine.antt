@@ -47,14 +47,14 @@ combines next None = deed.Fails fault.Zero
 combines next (Some v) = deed.Goes 2 (Some v) next
 
 -- the left part of `&&` or `||` decides, or the right part is evaluated
-abbrev pub and_then : (next other : ℕ) → Bool → Deed
-and_then next other true = deed.Goes 1 None other
-and_then next other false = deed.Goes 1 (Some (value.Truth false)) next
+abbrev pub branches_and : (next other : ℕ) → Bool → Deed
+branches_and next other true = deed.Goes 1 None other
+branches_and next other false = deed.Goes 1 (Some (value.Truth false)) next
 
 -- `||`: where the left part is true, the right one isn't evaluated and the answer is true; else the right part follows
-abbrev pub or_else : (next other : ℕ) → Bool → Deed
-or_else next other true = deed.Goes 1 (Some (value.Truth true)) next
-or_else next other false = deed.Goes 1 None other
+abbrev pub branches_or : (next other : ℕ) → Bool → Deed
+branches_or next other true = deed.Goes 1 (Some (value.Truth true)) next
+branches_or next other false = deed.Goes 1 None other
 
 -- the condition of `if` or `while` decides: on with the next line where it is true, else at the other place
 abbrev pub branches : (next other : ℕ) → Bool → Deed
@@ -123,14 +123,14 @@ takes_held next a hold true = deed.Takes a true next
 takes_held next a hold false = deed.Waits a hold.holder
 
 -- a free lock is taken; a held one is taken once more or waited for
-abbrev pub takes : (t next : ℕ) → Address → Option Hold → Deed
-takes t next a None = deed.Takes a false next
-takes t next a (Some hold) = takes_held next a hold (hold.holder == t)
+abbrev pub takes_lock : (t next : ℕ) → Address → Option Hold → Deed
+takes_lock t next a None = deed.Takes a false next
+takes_lock t next a (Some hold) = takes_held next a hold (hold.holder == t)
 
 -- `synchronized` begins: the lock of the top operand's object is asked for, and a fault where that is no address
 abbrev pub acquires : Shared → (t next : ℕ) → Option Address → Deed
 acquires see t next None = deed.Fails fault.Null
-acquires see t next (Some a) = takes t next a (see.lock_at a)
+acquires see t next (Some a) = takes_lock t next a (see.lock_at a)
 
 -- a thread gives back one hold of a lock that it holds itself, which frees the lock where it was the last one
 abbrev pub gives_held : (next : ℕ) → Address → Hold → Bool → Deed
@@ -138,14 +138,14 @@ gives_held next a hold false = deed.Fails fault.Null
 gives_held next a hold true = deed.Gives a (not (nat_lt 1 hold.count)) next
 
 -- a hold of this lock is given back; a fault where nobody holds it
-abbrev pub gives : (t next : ℕ) → Address → Option Hold → Deed
-gives t next a None = deed.Fails fault.Null
-gives t next a (Some hold) = gives_held next a hold (hold.holder == t)
+abbrev pub gives_lock : (t next : ℕ) → Address → Option Hold → Deed
+gives_lock t next a None = deed.Fails fault.Null
+gives_lock t next a (Some hold) = gives_held next a hold (hold.holder == t)
 
 -- `synchronized` ends: the lock that the frame took last is given back
 abbrev pub releases : Shared → (t next : ℕ) → Option Address → Deed
 releases see t next None = deed.Fails fault.Null
-releases see t next (Some a) = gives t next a (see.lock_at a)
+releases see t next (Some a) = gives_lock t next a (see.lock_at a)
 
 -- a frame returns the top operand, or nothing where its method has no result
 abbrev pub returns : Value → Bool → Deed
@@ -158,9 +158,9 @@ starts_run next a None = deed.Fails fault.Null
 starts_run next a (Some m) = deed.Starts a m next
 
 -- `new Thread(e).start()`: the class of the top operand's object says which `run` the new thread begins with
-abbrev pub starts : Program → Shared → (next : ℕ) → Option Address → Deed
-starts P see next None = deed.Fails fault.Null
-starts P see next (Some a) = starts_run next a (run_of P (object_class (see.object_at a)))
+abbrev pub starts_thread : Program → Shared → (next : ℕ) → Option Address → Deed
+starts_thread P see next None = deed.Fails fault.Null
+starts_thread P see next (Some a) = starts_run next a (run_of P (object_class (see.object_at a)))
 
 -- a program with the entries and rooms of its methods, what a thread may see, and its number
 module _ (P : Program) (entry room : List ℕ) (see : Shared) (t : ℕ) where
@@ -172,8 +172,8 @@ module _ (P : Program) (entry room : List ℕ) (see : Shared) (t : ℕ) where
   deed_of slots operands locks depth next i.Drop = deed.Goes 1 None next
   deed_of slots operands locks depth next (i.Unary op) = deed.Goes 1 (Some (unary_value op (top operands))) next
   deed_of slots operands locks depth next (i.Binary op) = combines next (binary_value op (top (under operands)) (top operands))
-  deed_of slots operands locks depth next (i.AndThen other) = and_then next other (as_truth (top operands))
-  deed_of slots operands locks depth next (i.OrElse other) = or_else next other (as_truth (top operands))
+  deed_of slots operands locks depth next (i.AndThen other) = branches_and next other (as_truth (top operands))
+  deed_of slots operands locks depth next (i.OrElse other) = branches_or next other (as_truth (top operands))
   deed_of slots operands locks depth next (i.Branch other) = branches next other (as_truth (top operands))
   deed_of slots operands locks depth next (i.Get x) = reads P see t next x (address_of (top operands))
   deed_of slots operands locks depth next (i.Put x) = writes P see t next (top operands) x (address_of (top (under operands)))
@@ -183,7 +183,7 @@ module _ (P : Program) (entry room : List ℕ) (see : Shared) (t : ℕ) where
   deed_of slots operands locks depth next i.Release = releases see t next (first_frame locks)
   deed_of slots operands locks depth next (i.Ret result) = returns (top operands) result
   deed_of slots operands locks depth next i.Print = deed.Prints (as_int (top operands)) next
-  deed_of slots operands locks depth next i.Start = starts P see next (address_of (top operands))
+  deed_of slots operands locks depth next i.Start = starts_thread P see next (address_of (top operands))
 
   -- what a frame does next: that of its line
   abbrev pub deed_at : CodeFrame → (depth : ℕ) → Option Code → Deed
@@ -251,17 +251,17 @@ done P see t f below (deed.Waits a holder) = Waits a holder
 done P see t f below d = Moves (record { kind = deed_kind P see t d; thread = thread_after P see t f below d; change = deed_change P see t f d })
 
 -- a ready thread enters its method
-abbrev pub enter_first : Address → ℕ → Option Method → Option ℕ → OutcomeOf CodeFrame
-enter_first a m None place = Moves (record { kind = Both; thread = Faulted fault.Null []; change = Nothing })
-enter_first a m (Some method) None = Moves (record { kind = Both; thread = Faulted fault.Null []; change = Nothing })
-enter_first a m (Some method) (Some place) = Moves (record { kind = Both; thread = Running (code_frame_at m method (value.Ref a) [] place ∷ []); change = Nothing })
+abbrev pub ready_thread_enters : Address → ℕ → Option Method → Option ℕ → OutcomeOf CodeFrame
+ready_thread_enters a m None place = Moves (record { kind = Both; thread = Faulted fault.Null []; change = Nothing })
+ready_thread_enters a m (Some method) None = Moves (record { kind = Both; thread = Faulted fault.Null []; change = Nothing })
+ready_thread_enters a m (Some method) (Some place) = Moves (record { kind = Both; thread = Running (code_frame_at m method (value.Ref a) [] place ∷ []); change = Nothing })
 
 -- a thread's turn, by its status
 abbrev pub code_turn : Program → List Code → (entry room : List ℕ) → Shared → ℕ → Option (ThreadOf CodeFrame) → OutcomeOf CodeFrame
 code_turn P code entry room see t None = Absent
 code_turn P code entry room see t (Some Done) = IsDone
 code_turn P code entry room see t (Some (Faulted kind frames)) = HadFaulted kind
-code_turn P code entry room see t (Some (Ready a m)) = enter_first a m (slice_get P.methods m) (slice_get entry m)
+code_turn P code entry room see t (Some (Ready a m)) = ready_thread_enters a m (slice_get P.methods m) (slice_get entry m)
 code_turn P code entry room see t (Some (Running [])) = Moves (record { kind = Both; thread = Faulted fault.Null []; change = Nothing })
 code_turn P code entry room see t (Some (Running (f ∷ below))) = done P see t f below (deed_at P entry room see t f (length (f ∷ below)) (slice_get code f.place))
 

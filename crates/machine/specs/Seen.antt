@@ -13,8 +13,8 @@ abbrev pub program_in : Seen → Program
 program_in s = program_of s.program.now
 
 -- the lines of the program's code, all methods in one list
-abbrev pub lines_in : Seen → List Code
-lines_in s = s.code.now.code.items
+abbrev pub code_lines_in : Seen → List Code
+code_lines_in s = s.code.now.code.items
 
 -- the place of each method's first line, by the method's number
 abbrev pub entry_in : Seen → List ℕ

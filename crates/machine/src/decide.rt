@@ -4,8 +4,8 @@ ghost use Rattle.std.specs.Option.{option_map};
 ghost use Rattle.core_program.specs.Views.{program_of};
 ghost use Rattle.state.specs.Memory.{lists, field_value};
 ghost use Rattle.semantics.specs.Step.{value_at, unless_final, index_of, run_of_class, run_of, target_at, object_class, most_frames};
-ghost use Rattle.machine.specs.CodeMachine.{pushes, stores, combines, and_then, or_else, branches, reads, writes, makes, enters, enters_some, dispatches, calls_on, call_deed, acquires, releases, returns, starts, deed_of};
-ghost use Rattle.machine.specs.Seen.{program_in, lines_in, entry_in, room_in, shared_in};
+ghost use Rattle.machine.specs.CodeMachine.{pushes, stores, combines, branches_and, branches_or, branches, reads, writes, makes, enters, enters_some, dispatches, calls_on, call_deed, acquires, releases, returns, starts_thread, deed_of};
+ghost use Rattle.machine.specs.Seen.{program_in, code_lines_in, entry_in, room_in, shared_in};
 ghost use Rattle.machine.specs.Turns.{cell_deed, line_deed};
 
 use crate::deed::Deed;
@@ -60,7 +60,7 @@ fn combines(next: u32, found: Option<Value>) -> Deed
 
 /// The left part of `&&` decides, or the right part is evaluated.
 fn and_then(next: u32, other: u32, left: bool) -> Deed
-    ensures { result ≡ and_then next other left }
+    ensures { result ≡ branches_and next other left }
 {
     if left {
         Deed::Goes {
@@ -79,7 +79,7 @@ fn and_then(next: u32, other: u32, left: bool) -> Deed
 
 /// The same for `||`.
 fn or_else(next: u32, other: u32, left: bool) -> Deed
-    ensures { result ≡ or_else next other left }
+    ensures { result ≡ branches_or next other left }
 {
     if left {
         Deed::Goes {
@@ -428,7 +428,7 @@ pub fn run_of_class(program: &CoreProgram, class: ClassId) -> Option<MethodId>
 
 /// Starts a thread on what an operand refers to.
 fn starts(seen: &Seen<'_>, next: u32, operand: Option<Address>) -> Deed
-    ensures { result ≡ starts (program_in seen.now) (shared_in seen.now) next operand }
+    ensures { result ≡ starts_thread (program_in seen.now) (shared_in seen.now) next operand }
 {
     let Some(address) = operand else {
         return Deed::Fails(Fault::Null);
@@ -501,7 +501,7 @@ pub(crate) fn deed_of(seen: &Seen<'_>, top: &TopFrame<'_>, next: u32, instr: Ins
 
 /// What a running thread does next.
 pub fn next_deed(seen: &Seen<'_>, cell: &ThreadCell) -> Deed
-    ensures { result ≡ cell_deed (program_in seen.now) (lines_in seen.now) (entry_in seen.now) (room_in seen.now) (shared_in seen.now) seen.now.thread cell.now }
+    ensures { result ≡ cell_deed (program_in seen.now) (code_lines_in seen.now) (entry_in seen.now) (room_in seen.now) (shared_in seen.now) seen.now.thread cell.now }
 {
     let Some(place) = cell.place() else {
         return Deed::Fails(Fault::Null);
@@ -511,7 +511,7 @@ pub fn next_deed(seen: &Seen<'_>, cell: &ThreadCell) -> Deed
 
 /// What the line at a place does.
 fn line_deed(seen: &Seen<'_>, cell: &ThreadCell, place: u32) -> Deed
-    ensures { result ≡ line_deed (program_in seen.now) (entry_in seen.now) (room_in seen.now) (shared_in seen.now) seen.now.thread cell.now (slice_get (lines_in seen.now) place) }
+    ensures { result ≡ line_deed (program_in seen.now) (entry_in seen.now) (room_in seen.now) (shared_in seen.now) seen.now.thread cell.now (slice_get (code_lines_in seen.now) place) }
 {
     match seen.code.code.get(place as usize) {
         Some(line) => deed_in(seen, cell, line),

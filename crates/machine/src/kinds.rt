@@ -6,7 +6,7 @@ ghost use Rattle.semantics.specs.Step.{next_at, followed, holds_object, some_add
 ghost use Rattle.semantics.specs.Locking.{guarded_kind};
 ghost use Rattle.machine.specs.CodeMachine.{deed_kind};
 ghost use Rattle.machine.specs.Turns.{kind_done, cell_kind, turn_kind};
-ghost use Rattle.machine.specs.Seen.{program_in, lines_in, entry_in, room_in, shared_in};
+ghost use Rattle.machine.specs.Seen.{program_in, code_lines_in, entry_in, room_in, shared_in};
 
 use crate::decide::{next_deed, value_at};
 use crate::deed::{Deed, Turn};
@@ -142,7 +142,7 @@ fn kind_done(seen: &Seen<'_>, deed: Deed) -> Option<StepKind>
 
 /// The kind of a thread's next step; none where it has none.
 pub fn cell_kind(seen: &Seen<'_>, cell: &ThreadCell) -> Option<StepKind>
-    ensures { result ≡ cell_kind (program_in seen.now) (lines_in seen.now) (entry_in seen.now) (room_in seen.now) (shared_in seen.now) seen.now.thread cell.now }
+    ensures { result ≡ cell_kind (program_in seen.now) (code_lines_in seen.now) (entry_in seen.now) (room_in seen.now) (shared_in seen.now) seen.now.thread cell.now }
 {
     match cell.state() {
         ThreadState::Ready => Some(StepKind::Both),

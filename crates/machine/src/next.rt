@@ -1,6 +1,6 @@
 //! What a thread's turn comes to, decided before anything is changed.
 ghost use Rattle.std.specs.Prelude.{◌≡◌, slice_get};
-ghost use Rattle.machine.specs.Seen.{program_in, lines_in, entry_in, room_in, shared_in};
+ghost use Rattle.machine.specs.Seen.{program_in, code_lines_in, entry_in, room_in, shared_in};
 ghost use Rattle.machine.specs.Turns.{first_turn, deed_turn, cell_turn, next_turn};
 
 use crate::decide::next_deed;
@@ -57,7 +57,7 @@ fn deed_turn(deed: Deed) -> Turn
 
 /// What a thread's turn comes to, by its status.
 fn cell_turn(seen: &Seen<'_>, cell: &ThreadCell) -> Turn
-    ensures { result ≡ cell_turn (program_in seen.now) (lines_in seen.now) (entry_in seen.now) (room_in seen.now) (shared_in seen.now) seen.now.thread cell.now }
+    ensures { result ≡ cell_turn (program_in seen.now) (code_lines_in seen.now) (entry_in seen.now) (room_in seen.now) (shared_in seen.now) seen.now.thread cell.now }
 {
     if let Some((address, method)) = cell.waiting() {
         return first_turn(seen, address, method);
@@ -71,7 +71,7 @@ fn cell_turn(seen: &Seen<'_>, cell: &ThreadCell) -> Turn
 
 /// What the turn of the thread that looks comes to.
 pub fn next_turn(seen: &Seen<'_>, threads: &[ThreadCell]) -> Turn
-    ensures { result ≡ next_turn (program_in seen.now) (lines_in seen.now) (entry_in seen.now) (room_in seen.now) (shared_in seen.now) seen.now.thread (slice_get threads.now seen.now.thread) }
+    ensures { result ≡ next_turn (program_in seen.now) (code_lines_in seen.now) (entry_in seen.now) (room_in seen.now) (shared_in seen.now) seen.now.thread (slice_get threads.now seen.now.thread) }
 {
     match threads.get(seen.thread as usize) {
         Some(cell) => cell_turn(seen, cell),

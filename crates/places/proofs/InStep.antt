@@ -18,7 +18,7 @@ use Rattle.classes.specs.Seen.{FieldData}
 use Rattle.typing.specs.declared.fault.TypeFault.TheVariants.{UnknownName, NoRule}
 use Rattle.typing.specs.Rulings.{both, demand}
 use Rattle.typing.specs.Scopes.{Scope, variable}
-use Rattle.typing.specs.Rules.{TypedData, TypedList, typed, with_argument, is_int, is_boolean, number_rule, least_typed, variable_typed, not_rule, neg_rule, operator_rule, logical_rule, binary_rule, field_rule, method_rule, get_rule, call_rule, class_rule, new_rule, fit_each, final_types, parameter_types}
+use Rattle.typing.specs.Rules.{TypedData, TypedList, typed, with_argument, is_int, is_boolean, number_rule, least_typed, variable_typed, not_rule, neg_rule, operator_rule, logical_rule, binary_rule, field_rule, method_rule, get_rule, call_rule, class_rule, new_rule, fit_each, final_types, declared_parameter_types}
 use Rattle.typing.specs.Exprs.{elaborated, elaborated_each, variable_rule}
 use Rattle.typing.proofs.Inversions.{same_ok, gain_of, given_of, both_of, demand_of, then_of, ok_or_of, map_of}
 use Rattle.places.specs.Sources.{Source, FromExpr, expr_sources, exprs_sources}
@@ -75,9 +75,9 @@ module _ (t : TableData) (class : ℕ) (returns : Option CoreType) (first : ℕ)
       → elaborated t class scope u ≡ Some d → Made (expr_parts p.0.node ++ exprs_parts p.1.nodes) us → Made (expr_parts d.node) (FromExpr u ∷ us)
   call_made u name p d us is h own =
       let make : ℕ × MethodData → TypedData = λ m. typed (result_type m.1.returns) (core.CallE p.0.node m.0 p.1.nodes) in
-      let o = then_of (method_rule t name p.0.ty) (λ m. demand (fit_each t p.1.types (parameter_types m.1)) (NoRule name.at) (make m)) d is in
+      let o = then_of (method_rule t name p.0.ty) (λ m. demand (fit_each t p.1.types (declared_parameter_types m.1)) (NoRule name.at) (make m)) d is in
       over u (make o.0) d (expr_parts p.0.node ++ exprs_parts p.1.nodes) us
-      (demand_of (fit_each t p.1.types (parameter_types o.0.1)) (NoRule name.at) (make o.0) d o.2).1 refl h own
+      (demand_of (fit_each t p.1.types (declared_parameter_types o.0.1)) (NoRule name.at) (make o.0) d o.2).1 refl h own
 
   new_made : (u : ExprTree) (name : Name) (args : TypedList) (d : TypedData) (us : List Source) → new_rule t name args ≡ Ok d
       → elaborated t class scope u ≡ Some d → Made (exprs_parts args.nodes) us → Made (expr_parts d.node) (FromExpr u ∷ us)

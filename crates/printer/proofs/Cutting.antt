@@ -15,7 +15,7 @@ use Rattle.printer.specs.declared.page.NextPlace.{NextPlace}
 use Rattle.printer.specs.declared.page.NextPlace.TheVariants as P
 use Rattle.syntax.specs.declared.terminal.Terminal.{Terminal}
 use Rattle.syntax.specs.declared.terminal.Terminal.TheVariants as T
-use Rattle.printer.specs.Layout.{PlainToken, Fixed, Named, Numeral, gap, indent, layout, lead_of, place_after, braces_after, lexeme_text, line_end, plain_token_at}
+use Rattle.printer.specs.Layout.{PlainToken, Fixed, Named, Numeral, gap, indent, layout, lead_of, place_after, braces_after, lexeme_text, line_end_after, plain_token_at}
 use Rattle.printer.specs.Reprinted.{lexeme_kind, AreLexemes, Parted, is_bang, begins_with_assign, AreTokensOf}
 use Rattle.syntax.specs.Tokens.{terminal_kind, spelling}
 
@@ -139,15 +139,15 @@ no_blank (Fixed t) rest k = refl
 
 spaced_layout : (xs : List PlainToken) (depth : ℕ) → begins_quietly (layout P.Spaced depth xs) ≡ true
 spaced_layout [] depth = refl
-spaced_layout (x ∷ xs) depth = spaced_quiet x depth (line_end x ++ layout (place_after x) (braces_after depth x) xs)
+spaced_layout (x ∷ xs) depth = spaced_quiet x depth (line_end_after x ++ layout (place_after x) (braces_after depth x) xs)
 
 callee_layout : (xs : List PlainToken) (depth : ℕ) → begins_quietly (layout P.Callee depth xs) ≡ true
 callee_layout [] depth = refl
-callee_layout (x ∷ xs) depth = callee_quiet x depth (line_end x ++ layout (place_after x) (braces_after depth x) xs)
+callee_layout (x ∷ xs) depth = callee_quiet x depth (line_end_after x ++ layout (place_after x) (braces_after depth x) xs)
 
 -- what is laid out behind a token doesn't go on it
 follow : (x : PlainToken) (xs : List PlainToken) (depth : ℕ) → AreLexemes xs → Parted (is_bang x) xs
-    → may_follow (lexeme_kind x) (lexeme_text x) (line_end x ++ layout (place_after x) depth xs) ≡ true
+    → may_follow (lexeme_kind x) (lexeme_text x) (line_end_after x ++ layout (place_after x) depth xs) ≡ true
 follow (Named name) xs depth k p = word_quiet (layout P.Callee depth xs) (callee_layout xs depth)
 follow (Numeral n) xs depth k p = digit_quiet (layout P.Spaced depth xs) (spaced_layout xs depth)
 follow (Fixed T.OpenBrace) xs depth k p = refl
@@ -156,7 +156,7 @@ follow (Fixed T.Semicolon) xs depth k p = refl
 follow (Fixed T.OpenParen) xs depth k p = open_follows (layout P.Joined depth xs)
 follow (Fixed T.Dot) xs depth k p = dot_follows (layout P.Joined depth xs)
 follow (Fixed T.Bang) [] depth k p = absurd (cc)
-follow (Fixed T.Bang) (x ∷ xs) depth k p = bang_follows x (line_end x ++ layout (place_after x) (braces_after depth x) xs) k.0 (p.0 refl)
+follow (Fixed T.Bang) (x ∷ xs) depth k p = bang_follows x (line_end_after x ++ layout (place_after x) (braces_after depth x) xs) k.0 (p.0 refl)
 follow (Fixed T.Thread) xs depth k p = terminal_quiet T.Thread (layout P.Callee depth xs) (callee_layout xs depth)
 follow (Fixed T.Out) xs depth k p = terminal_quiet T.Out (layout P.Callee depth xs) (callee_layout xs depth)
 follow (Fixed T.Println) xs depth k p = terminal_quiet T.Println (layout P.Callee depth xs) (callee_layout xs depth)
@@ -186,7 +186,7 @@ gap_blank P.Spaced depth L.OpenParen = refl
 gap_blank P.Spaced depth L.Joined = refl
 gap_blank P.Spaced depth L.Spaced = refl
 
-line_end_blank : (x : PlainToken) → list_all is_blank (line_end x) ≡ true
+line_end_blank : (x : PlainToken) → list_all is_blank (line_end_after x) ≡ true
 line_end_blank (Fixed T.OpenBrace) = refl
 line_end_blank (Fixed T.CloseBrace) = refl
 line_end_blank (Fixed T.Semicolon) = refl
@@ -209,9 +209,9 @@ cut [] place depth at bang before b k p = ([], blanks_first before [] at [] b re
 cut (x ∷ xs) place depth at bang before b k p =
     let g = gap place depth (lead_of x) in
     let blanks = before ++ g in
-    let behind = line_end x ++ layout (place_after x) (braces_after depth x) xs in
+    let behind = line_end_after x ++ layout (place_after x) (braces_after depth x) xs in
     let start = at + length blanks in
-    let more = cut xs (place_after x) (braces_after depth x) (start + length (lexeme_text x)) (is_bang x) (line_end x) (line_end_blank x) k.1 p.1 in
+    let more = cut xs (place_after x) (braces_after depth x) (start + length (lexeme_text x)) (is_bang x) (line_end_after x) (line_end_blank x) k.1 p.1 in
     let here : TokensFrom (lexeme_text x ++ behind) start (record { kind = lexeme_kind x; text = lexeme_text x; at = start } ∷ more.0) =
     written_token (lexeme_kind x) (lexeme_text x) behind start more.0 k.0 (follow x xs (braces_after depth x) k.1 p.1) more.1 in
     let whole = blanks_first blanks (lexeme_text x ++ behind) at _ (all_both is_blank before g b (gap_blank place depth (lead_of x))) (no_blank x behind k.0) here in (

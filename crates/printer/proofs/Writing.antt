@@ -1,7 +1,7 @@
 -- Tokens written one after another.
 use Rattle.std.proofs.Common.{◌≡◌, ℕ, suc, ◌+◌, ◌-◌, ◌<◌, ◌≤◌, length, drop, get_or, List, [], ◌∷◌, ◌++◌, refl, ap, sym, arith, append_assoc, append-nil, subst, Result, OnOk, drop-cons, ◌∙◌, add-one}
 use Rattle.std.proofs.lemmas.List.{drop_all}
-use Rattle.printer.specs.Layout.{PlainToken, Page, put, writes, layout, gap, lead_of, place_after, braces_after, lexeme_text, line_end}
+use Rattle.printer.specs.Layout.{PlainToken, Page, put, writes, layout, gap, lead_of, place_after, braces_after, lexeme_text, line_end_after}
 use Rattle.printer.specs.declared.page.NextPlace.TheVariants as P
 use Rattle.printer.specs.Printing.{canonical, program_lexemes}
 use Rattle.syntax.specs.Trees.{ProgramTree}
@@ -68,8 +68,8 @@ writes_text (x ∷ xs) page =
     let g = gap page.place page.depth (lead_of x) in
     let rest = layout (place_after x) (braces_after page.depth x) xs in
     writes_text xs (put page x)
-    ∙ append_assoc page.text (g ++ (lexeme_text x ++ line_end x)) rest
-    ∙ ap (λ z. page.text ++ z) (append_assoc g (lexeme_text x ++ line_end x) rest ∙ ap (λ z. g ++ z) (append_assoc (lexeme_text x) (line_end x) rest))
+    ∙ append_assoc page.text (g ++ (lexeme_text x ++ line_end_after x)) rest
+    ∙ ap (λ z. page.text ++ z) (append_assoc g (lexeme_text x ++ line_end_after x) rest ∙ ap (λ z. g ++ z) (append_assoc (lexeme_text x) (line_end_after x) rest))
 
 pub canonical_text : (bytes : List ℕ) (blank page : Page) (t : ProgramTree) → blank ≡ record { text = []; depth = 0; place = P.LineStart }
     → page ≡ writes blank (program_lexemes t) → bytes ≡ page.text → bytes ≡ canonical t

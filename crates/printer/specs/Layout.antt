@@ -30,11 +30,11 @@ plain_token_at at (Named name) = record { kind = K.Name; text = name; at = at }
 plain_token_at at (Numeral n) = number_token n (decimal n) at
 
 -- a line ends after `{`, `}` and `;`
-abbrev pub line_end : PlainToken → List ℕ
-line_end (Fixed T.OpenBrace) = codes "\n"
-line_end (Fixed T.CloseBrace) = codes "\n"
-line_end (Fixed T.Semicolon) = codes "\n"
-line_end x = []
+abbrev pub line_end_after : PlainToken → List ℕ
+line_end_after (Fixed T.OpenBrace) = codes "\n"
+line_end_after (Fixed T.CloseBrace) = codes "\n"
+line_end_after (Fixed T.Semicolon) = codes "\n"
+line_end_after x = []
 
 -- the number of open braces after a token
 abbrev pub braces_after : ℕ → PlainToken → ℕ
@@ -91,7 +91,7 @@ gap P.Spaced depth L.Spaced = codes " "
 -- tokens laid out from a place on, where so many braces are open
 abbrev pub layout : NextPlace → ℕ → List PlainToken → List ℕ
 layout place depth [] = []
-layout place depth (x ∷ xs) = gap place depth (lead_of x) ++ (lexeme_text x ++ (line_end x ++ layout (place_after x) (braces_after depth x) xs))
+layout place depth (x ∷ xs) = gap place depth (lead_of x) ++ (lexeme_text x ++ (line_end_after x ++ layout (place_after x) (braces_after depth x) xs))
 
 -- tokens laid out from the start of a text on
 abbrev pub laid_out : List PlainToken → List ℕ
@@ -106,7 +106,7 @@ pub record Page : Type 0 where
 -- the page with one token more
 unfoldable pub put : Page → PlainToken → Page
 put page x = record {
-  text = page.text ++ (gap page.place page.depth (lead_of x) ++ (lexeme_text x ++ line_end x));
+  text = page.text ++ (gap page.place page.depth (lead_of x) ++ (lexeme_text x ++ line_end_after x));
   depth = braces_after page.depth x;
   place = place_after x;
 }

@@ -2,7 +2,7 @@
 
 ghost use Rattle.std.specs.Prelude.{◌≡◌, ◌+◌, ◌<◌, ◌^◌, [], ◌++◌, ◌≤◌, OnOk, OnErr, string_bytes, string_len};
 ghost use Rattle.base.specs.Texts.{KeepsText};
-ghost use Rattle.printer.specs.Layout.{Fixed, KeepsPage, Named, Numeral, Page, braces_after, gap, indent, lead_of, line_end, place_after, put};
+ghost use Rattle.printer.specs.Layout.{Fixed, KeepsPage, Named, Numeral, Page, braces_after, gap, indent, lead_of, line_end_after, place_after, put};
 ghost use Rattle.printer.specs.declared.page.NextPlace.TheVariants as places;
 
 use itoa::Buffer;
@@ -137,7 +137,7 @@ fn write_gap(text: &mut String, place: NextPlace, depth: usize, lead: Lead) -> R
 
 #[tactic(auto, using(base::proofs::Texts::kept_itself))]
 fn write_line_end(text: &mut String, terminal: Terminal) -> Result<(), NoMemory>
-    ensures text { OnOk result (string_bytes text.new ≡ string_bytes text.old ++ line_end (Fixed terminal)) }
+    ensures text { OnOk result (string_bytes text.new ≡ string_bytes text.old ++ line_end_after (Fixed terminal)) }
     ensures kept { OnErr result (KeepsText (string_bytes text.old) (string_bytes text.new)) }
     ensures longer { string_len text.old ≤ string_len text.new }
 {

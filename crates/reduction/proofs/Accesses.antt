@@ -18,7 +18,7 @@ use Rattle.state.specs.declared.value.StepKind.{StepKind}
 use Rattle.state.specs.declared.value.StepKind.TheVariants.{Both, Other}
 use Rattle.semantics.specs.Step.{Shared, next_at, followed, holds_object, some_address, mutable_kind, access_kind}
 use Rattle.semantics.specs.Locking.{guarded_kind, holds}
-use Rattle.reduction.specs.Phases.{Phase, Passes, allowed, stepped, freed, IsDownClosed}
+use Rattle.reduction.specs.Phases.{Phase, PassesPart, allowed, stepped, freed, IsDownClosed}
 use Rattle.reduction.specs.Leads.{Env, machine_memory, next_value, lead_from, lead, Sound, LeadsTo}
 use Rattle.reduction.proofs.PhaseLemmas.{const_stays, mover_stays, atomic_stays, no_error, both_allowed, atomic_allows, freed_rises}
 use Rattle.reduction.proofs.LeadLemmas.{then_of, leads_from}
@@ -40,17 +40,17 @@ abbrev pub Admits : (Phase → Type 0) → Phase → StepKind → Type 0
 Admits L p kind = (allowed p kind ≡ true) × L (stepped kind p)
 
 module _ (L : Phase → Type 0) (falls : IsDownClosed L) (p : Phase) where
-  mover_admits : Passes p Mover L → Admits L p Both
+  mover_admits : PassesPart p Mover L → Admits L p Both
   mover_admits r = (both_allowed p, mover_stays L p r)
 
-  other_admits : Passes p Atomic L → Admits L p Other
+  other_admits : PassesPart p Atomic L → Admits L p Other
   other_admits r = (atomic_allows L p r, atomic_stays L p r)
 
-  both_admits : Passes p Atomic L → Admits L p Both
+  both_admits : PassesPart p Atomic L → Admits L p Both
   both_admits r = (both_allowed p, falls p (freed false p) (freed_rises false p) (atomic_stays L p r))
 
   -- what the rules count as held is held
-  guarded : (writes_only writes counted held : Bool) → (counted ≡ true → held ≡ true) → Passes p (guarded_effect writes_only writes counted) L → Admits L p (guarded_kind writes_only writes held)
+  guarded : (writes_only writes counted held : Bool) → (counted ≡ true → held ≡ true) → PassesPart p (guarded_effect writes_only writes counted) L → Admits L p (guarded_kind writes_only writes held)
   guarded false writes true true sure r = mover_admits r
   guarded false writes true false sure r = absurd (let e : false ≡ true = sure refl in cc)
   guarded false writes false held sure r = absurd (no_error L p r)
@@ -94,18 +94,18 @@ module _ (P : Program) (see : Shared) (t : ℕ) where
         ap (λ o. holds_object P see t (some_address P see t o)) (leads_followed fs (value.Ref a) (value.Ref at.0) last) ∙ sure at.0 at.2
 
     module _ (L : Phase → Type 0) (falls : IsDownClosed L) (p : Phase) (writes : Bool) where
-      mutable_admits : (writes_only : Bool) (guard : Option PathData) → Passes p (access_effect writes (mutable_guard writes_only guard os_top) H) L → Admits L p (mutable_kind P see t writes_only writes a guard)
+      mutable_admits : (writes_only : Bool) (guard : Option PathData) → PassesPart p (access_effect writes (mutable_guard writes_only guard os_top) H) L → Admits L p (mutable_kind P see t writes_only writes a guard)
       mutable_admits writes_only None r = other_admits L falls p r
       mutable_admits writes_only (Some g) r = guarded L falls p writes_only writes (holds_at (extended_some os_top g.fields) H) (holds_object P see t (some_address P see t (followed P see t (value.Ref a) g.fields)))
           (λ has. guard_held g.fields os_top leads (extended_some os_top g.fields) refl has)
-          (subst (λ b. Passes p b L) (guarded_is writes_only writes (extended_some os_top g.fields) H) r)
+          (subst (λ b. PassesPart p b L) (guarded_is writes_only writes (extended_some os_top g.fields) H) r)
 
-      by_finality : (x : core.Field) (final : Bool) → Passes p (access_effect writes (if final then Rattle.rules.specs.declared.guard.Guard.TheVariants.Final else mutable_guard x.writes_only x.guard os_top) H) L
+      by_finality : (x : core.Field) (final : Bool) → PassesPart p (access_effect writes (if final then Rattle.rules.specs.declared.guard.Guard.TheVariants.Final else mutable_guard x.writes_only x.guard os_top) H) L
           → Admits L p (if final then Both else mutable_kind P see t x.writes_only writes a x.guard)
       by_finality x true r = (both_allowed p, const_stays L p r)
       by_finality x false r = mutable_admits x.writes_only x.guard r
 
       -- an access of the operand's object
-      pub access_admits : (o : Option core.Field) → Passes p (access_effect writes (field_guard o os_top) H) L → Admits L p (access_kind P see t writes a o)
+      pub access_admits : (o : Option core.Field) → PassesPart p (access_effect writes (field_guard o os_top) H) L → Admits L p (access_kind P see t writes a o)
       access_admits None r = absurd (no_error L p r)
       access_admits (Some x) r = by_finality x x.is_final r

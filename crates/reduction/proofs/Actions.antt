@@ -28,9 +28,9 @@ use Rattle.state.specs.Work.{Item, Ex, St}
 use Rattle.state.specs.States.{Frame}
 use Rattle.semantics.specs.Step.{Change, Nothing, FieldIs, ObjectIs, Prints, Starts, Shared, object_class, run_of, run_of_class, unless_final, value_at, access_kind, faults, goes_on, load, store, binary, and_then, or_else, choose, loop, get, get_value, put, put_value, new, new_address, start, start_run}
 use Rattle.semantics.specs.Locking.{holds}
-use Rattle.reduction.specs.Phases.{Phase, Passes, phase_of, allowed, stepped, IsDownClosed}
+use Rattle.reduction.specs.Phases.{Phase, PassesPart, phase_of, allowed, stepped, IsDownClosed}
 use Rattle.reduction.specs.Leads.{Env, env_of, with_slot, machine_memory, Grows, next_value, lead, Paths, LeadsTo, MayLeadTo, top_path, under_path, dropped_paths}
-use Rattle.reduction.specs.Fits.{At, SlotsAgree, Fresh, TidyE, valued, stores, has_release, count_release, awaited, finals_of, FitsAct, FitsPhase}
+use Rattle.reduction.specs.Fits.{At, SlotsAgree, Fresh, TidyE, valued, stores, has_release, count_release, awaited, final_field_count, FitsAct, FitsPhase}
 use Rattle.reduction.specs.Safe.{LeadEach, FramesFit, Owns, frames_inside, outer_phase, releases_in_work, count_frames, held_count, IsFree}
 use Rattle.reduction.proofs.PhaseLemmas.{le_itself, passes_map, passes_falls, passes_rises, passes_seq, passes_join, atomic_stays, atomic_allows, both_allowed, phase_stepped, turn_below}
 use Rattle.reduction.proofs.LeadLemmas.{grows_itself, each_top, each_under, each_dropped, leads_from}
@@ -163,7 +163,7 @@ module _ (P : Program) (rel : ℕ → List PathData) (A : Assignment) (see : Sha
       binary_fine fits (Some v) = go Both (v ∷ under (under f.operands)) rest (None ∷ under_path (under_path os)) (both_allowed now) (tt, twice_under) fits (λ a. refl)
 
       -- the second part of `&&` and `||`
-      second_fits : (e : Expr) → At P (machine_memory P see.object_at) (releases_in_work below) slots rest (λ H. (valued P e ≡ true) × TidyE P e × (path_of P e ≡ None) × Passes now (expr_effect P rel A e H) (λ later. List_fits rest slots later (None ∷ under_path os)))
+      second_fits : (e : Expr) → At P (machine_memory P see.object_at) (releases_in_work below) slots rest (λ H. (valued P e ≡ true) × TidyE P e × (path_of P e ≡ None) × PassesPart now (expr_effect P rel A e H) (λ later. List_fits rest slots later (None ∷ under_path os)))
           → List_fits (Ex e ∷ rest) slots now (under_path os)
       second_fits e a = record {
         set = a.set;
@@ -175,13 +175,13 @@ module _ (P : Program) (rel : ℕ → List PathData) (A : Assignment) (see : Sha
         );
       }
 
-      pub and_fine : (e : Expr) → At P (machine_memory P see.object_at) (releases_in_work below) slots rest (λ H. (valued P e ≡ true) × TidyE P e × (path_of P e ≡ None) × Passes now (expr_effect P rel A e H) (λ later. List_fits rest slots later (None ∷ under_path os)))
+      pub and_fine : (e : Expr) → At P (machine_memory P see.object_at) (releases_in_work below) slots rest (λ H. (valued P e ≡ true) × TidyE P e × (path_of P e ≡ None) × PassesPart now (expr_effect P rel A e H) (λ later. List_fits rest slots later (None ∷ under_path os)))
           → (b : Bool) → Fine P rel A see t stands flag (and_then P see t f below rest e b)
       and_fine e a true = go Both (under f.operands) (Ex e ∷ rest) (under_path os) (both_allowed now) once_under (second_fits e a) (λ a. refl)
       and_fine e a false = go Both (value.Truth false ∷ under f.operands) rest (None ∷ under_path os) (both_allowed now) (tt, once_under)
           (passes_rises (λ q. List_fits rest slots q (None ∷ under_path os)) now (expr_effect P rel A e a.set) (list_falls rest slots (None ∷ under_path os)) a.rest.3) (λ a. refl)
 
-      pub or_fine : (e : Expr) → At P (machine_memory P see.object_at) (releases_in_work below) slots rest (λ H. (valued P e ≡ true) × TidyE P e × (path_of P e ≡ None) × Passes now (expr_effect P rel A e H) (λ later. List_fits rest slots later (None ∷ under_path os)))
+      pub or_fine : (e : Expr) → At P (machine_memory P see.object_at) (releases_in_work below) slots rest (λ H. (valued P e ≡ true) × TidyE P e × (path_of P e ≡ None) × PassesPart now (expr_effect P rel A e H) (λ later. List_fits rest slots later (None ∷ under_path os)))
           → (b : Bool) → Fine P rel A see t stands flag (or_else P see t f below rest e b)
       or_fine e a false = go Both (under f.operands) (Ex e ∷ rest) (under_path os) (both_allowed now) once_under (second_fits e a) (λ a. refl)
       or_fine e a true = go Both (value.Truth true ∷ under f.operands) rest (None ∷ under_path os) (both_allowed now) (tt, once_under)
@@ -223,14 +223,14 @@ module _ (P : Program) (rel : ℕ → List PathData) (A : Assignment) (see : Sha
           let test = expr_effect P rel A e a.set in
           let turn = passes_falls (Leaves (stores s) slots) (Leaves (stores s) slots) now now (seq_of (seq_of body test) (star_of (seq_of body test))) (star_of (seq_of body test)) (le_itself now) (turn_below (seq_of body test)) (leaves_falls (stores s) slots) a.rest.4 in
           let parts = passes_seq (Leaves (stores s) slots) now (seq_of body test) (star_of (seq_of body test)) turn in
-          let three = passes_seq (λ q. Passes q (star_of (seq_of body test)) (Leaves (stores s) slots)) now body test parts in
+          let three = passes_seq (λ q. PassesPart q (star_of (seq_of body test)) (Leaves (stores s) slots)) now body test parts in
           go Both (under f.operands) (St s ∷ St (WhileS e s) ∷ rest) [] (both_allowed now) tt (record {
             set = a.set;
             sound = a.sound;
             rest = (
               a.rest.0,
               a.rest.3,
-              passes_map (λ q. Passes q test (λ x. Passes x (star_of (seq_of body test)) (Leaves (stores s) slots))) _ now body
+              passes_map (λ q. PassesPart q test (λ x. PassesPart x (star_of (seq_of body test)) (Leaves (stores s) slots))) _ now body
                   (λ q g later agrees. record {
                     set = a.set;
                     sound = sound_kept P (machine_memory P see.object_at) slots later (λ b. has_release b rest || releases_in_work below b) a.set (λ path has. agrees.kept path.root (fresh.at path has)) a.sound;
@@ -243,9 +243,9 @@ module _ (P : Program) (rel : ℕ → List PathData) (A : Assignment) (see : Sha
             );
           }) (λ a. refl)
         where
-          whole_turn : (later : Env) (q : Phase) (x y : Basic) → ((z : ℕ) → stores s z ≡ false → later z ≡ slots z) → Passes q x (λ z. Passes z y (Leaves (stores s) slots))
-              → Passes q (seq_of x y) (λ z. (last : Env) → SlotsAgree P (machine_memory P see.object_at) (WhileS e s) later last → List_fits rest last z [])
-          whole_turn later q x y kept r = passes_join _ q x y (passes_map (λ z. Passes z y (Leaves (stores s) slots)) _ q x
+          whole_turn : (later : Env) (q : Phase) (x y : Basic) → ((z : ℕ) → stores s z ≡ false → later z ≡ slots z) → PassesPart q x (λ z. PassesPart z y (Leaves (stores s) slots))
+              → PassesPart q (seq_of x y) (λ z. (last : Env) → SlotsAgree P (machine_memory P see.object_at) (WhileS e s) later last → List_fits rest last z [])
+          whole_turn later q x y kept r = passes_join _ q x y (passes_map (λ z. PassesPart z y (Leaves (stores s) slots)) _ q x
               (λ z g. passes_map (Leaves (stores s) slots) _ z y (λ w k last agrees. k last (λ v other. agrees.kept v other ∙ kept v other)) g) r)
       loop_fine e s a false = go Both (under f.operands) rest [] (both_allowed now) tt
           (passes_rises (Leaves (stores s) slots) now (star_of (seq_of (effect P rel A s a.set) (expr_effect P rel A e a.set))) (leaves_falls (stores s) slots) a.rest.4 slots (λ y other. refl)) (λ a. refl)
@@ -274,7 +274,7 @@ module _ (P : Program) (rel : ℕ → List PathData) (A : Assignment) (see : Sha
         read_leads o x v leads is true on = some_path_leads o x v leads (ap (λ b. if b then machine_memory P see.object_at a x else None) on ∙ is)
         read_leads o x v leads is false on = tt
 
-        get_value_fine : (x : ℕ) (at : At P (machine_memory P see.object_at) (releases_in_work below) slots rest (λ H. Passes now (access_of P false x (top_path os) H) (λ next. List_fits rest slots next (get_path P x (top_path os) ∷ under_path os))))
+        get_value_fine : (x : ℕ) (at : At P (machine_memory P see.object_at) (releases_in_work below) slots rest (λ H. PassesPart now (access_of P false x (top_path os) H) (λ next. List_fits rest slots next (get_path P x (top_path os) ∷ under_path os))))
             → LeadsTo P (machine_memory P see.object_at) slots (top_path os) (value.Ref a) → (v : Option Value) → value_at P see t a x ≡ v → Fine P rel A see t stands flag (get_value P see t f below rest a (slice_get P.fields x) v)
         get_value_fine x at leads None is = fault_fine fault.Null
         get_value_fine x at leads (Some v) is =
@@ -299,11 +299,11 @@ module _ (P : Program) (rel : ℕ → List PathData) (A : Assignment) (see : Sha
           → (old : Option Value) → unless_final field (value_at P see t a x) ≡ old → Fine P rel A see t stands flag (put_value P see t f below rest a field old)
       put_value_fine x a at leads field is None has = fault_fine fault.Null
       put_value_fine x a at leads None is (Some old) has =
-          absurd (Rattle.reduction.proofs.PhaseLemmas.no_error _ now (subst (λ o. Passes now (Rattle.rules.specs.Effect.access_effect true (Rattle.rules.specs.Guards.field_guard o (top_path (under_path os))) at.set) (λ next. List_fits rest slots next (under_path (under_path os)))) is at.rest))
+          absurd (Rattle.reduction.proofs.PhaseLemmas.no_error _ now (subst (λ o. PassesPart now (Rattle.rules.specs.Effect.access_effect true (Rattle.rules.specs.Guards.field_guard o (top_path (under_path os))) at.set) (λ next. List_fits rest slots next (under_path (under_path os)))) is at.rest))
       put_value_fine x a at leads (Some fl) is (Some old) has =
           let admits = access_admits P see t slots at.set (λ b. has_release b rest || releases_in_work below b) at.sound sure (top_path (under_path os)) a leads
           (λ next. List_fits rest slots next (under_path (under_path os))) (list_falls rest slots (under_path (under_path os))) now true (Some fl)
-          (subst (λ o. Passes now (Rattle.rules.specs.Effect.access_effect true (Rattle.rules.specs.Guards.field_guard o (top_path (under_path os))) at.set) (λ next. List_fits rest slots next (under_path (under_path os)))) is at.rest) in
+          (subst (λ o. PassesPart now (Rattle.rules.specs.Effect.access_effect true (Rattle.rules.specs.Guards.field_guard o (top_path (under_path os))) at.set) (λ next. List_fits rest slots next (under_path (under_path os)))) is at.rest) in
           let parts = if_else fl.is_final (value_at P see t a x) old has in
           go_with (access_kind P see t true a (Some fl)) (under (under f.operands)) rest (under_path (under_path os)) (FieldIs a fl.index (top f.operands)) admits.0 twice_under admits.1 (λ b. refl)
           (put_grows P see.object_at a x fl (top f.operands) old is parts.0 (ap (λ o. field_value P x (see.object_at a) o) (sym is) ∙ parts.1)) (λ b. refl) tt
@@ -314,17 +314,17 @@ module _ (P : Program) (rel : ℕ → List PathData) (A : Assignment) (see : Sha
           (subst (LeadsTo P (machine_memory P see.object_at) slots (top_path (under_path os))) (address_is (top (under f.operands)) a is) (each_top P (machine_memory P see.object_at) slots (under_path os) (under f.operands) once_under))
           (slice_get P.fields x) refl (unless_final (slice_get P.fields x) (value_at P see t a x)) refl
 
-      pub new_fine : (c : ℕ) → List_fits rest slots now (None ∷ dropped_paths (finals_of (slice_get P.classes c)) os) → see.object_at (new_address P see t f below rest) ≡ None
+      pub new_fine : (c : ℕ) → List_fits rest slots now (None ∷ dropped_paths (final_field_count (slice_get P.classes c)) os) → see.object_at (new_address P see t f below rest) ≡ None
           → (o : Option core.Class) → slice_get P.classes c ≡ o → Fine P rel A see t stands flag (new P see t f below rest c o)
       new_fine c fits free None is = fault_fine fault.Null
       new_fine c fits free (Some class) is =
           go_with Both (value.Ref (new_address P see t f below rest) ∷ dropped (length class.finals) f.operands) rest (None ∷ dropped_paths (length class.finals) os)
           (ObjectIs (new_address P see t f below rest) (Rattle.state.specs.States.new_object P c (Rattle.state.specs.Values.popped (length class.finals) [] f.operands))) (both_allowed now)
           (tt, each_dropped P (machine_memory P see.object_at) slots (length class.finals) os f.operands known)
-          (subst (λ n. List_fits rest slots now (None ∷ dropped_paths n os)) (ap finals_of is) fits) (λ b. refl)
+          (subst (λ n. List_fits rest slots now (None ∷ dropped_paths n os)) (ap final_field_count is) fits) (λ b. refl)
           (made_grows P see.object_at (new_address P see t f below rest) _ free) (λ b. refl) tt
 
-      pub print_fine : Passes now Atomic (λ next. List_fits rest slots next (under_path os)) → Fine P rel A see t stands flag (goes_on P see t f below rest Other (under f.operands) rest (Prints (as_int (top f.operands))))
+      pub print_fine : PassesPart now Atomic (λ next. List_fits rest slots next (under_path os)) → Fine P rel A see t stands flag (goes_on P see t f below rest Other (under f.operands) rest (Prints (as_int (top f.operands))))
       print_fine r = go_with Other (under f.operands) rest (under_path os) (Prints (as_int (top f.operands))) (atomic_allows _ now r) once_under (atomic_stays _ now r) (λ b. refl)
           (grows_itself P (machine_memory P see.object_at)) (λ b. refl) tt
 
@@ -337,11 +337,11 @@ module _ (P : Program) (rel : ℕ → List PathData) (A : Assignment) (see : Sha
         object_run None m e = absurd (let k : None ≡ Some m = e in cc)
         object_run (Some c) m e = class_run c (slice_get P.classes c) m refl e
 
-        start_run_fine : (a : Address) → Passes now Atomic (λ next. List_fits rest slots next (under_path os)) → (o : Option ℕ) → run_of P (object_class (see.object_at a)) ≡ o → Fine P rel A see t stands flag (start_run P see t f below rest a o)
+        start_run_fine : (a : Address) → PassesPart now Atomic (λ next. List_fits rest slots next (under_path os)) → (o : Option ℕ) → run_of P (object_class (see.object_at a)) ≡ o → Fine P rel A see t stands flag (start_run P see t f below rest a o)
         start_run_fine a r None is = fault_fine fault.Null
         start_run_fine a r (Some m) is = go_with Other (under f.operands) rest (under_path os) (Starts a m) (atomic_allows _ now r) once_under (atomic_stays _ now r) (λ b. refl)
             (grows_itself P (machine_memory P see.object_at)) (λ b. refl) (object_run (object_class (see.object_at a)) m is)
 
-        pub start_fine : Passes now Atomic (λ next. List_fits rest slots next (under_path os)) → (o : Option Address) → Fine P rel A see t stands flag (start P see t f below rest o)
+        pub start_fine : PassesPart now Atomic (λ next. List_fits rest slots next (under_path os)) → (o : Option Address) → Fine P rel A see t stands flag (start P see t f below rest o)
         start_fine r None = fault_fine fault.Null
         start_fine r (Some a) = start_run_fine a r (run_of P (object_class (see.object_at a))) refl

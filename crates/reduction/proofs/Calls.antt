@@ -26,7 +26,7 @@ use Rattle.state.specs.Work.{Item}
 use Rattle.state.specs.States.{Frame, new_frame, new_slots}
 use Rattle.semantics.specs.Run.{is_annotated}
 use Rattle.semantics.specs.Step.{Shared, most_frames, has_result, object_class, target_at, call, call_on, dispatch, enter_some, enter, enter_first}
-use Rattle.reduction.specs.Phases.{Phase, Free, Opened, Committed, Passes, phase_of, IsDownClosed}
+use Rattle.reduction.specs.Phases.{Phase, Free, Opened, Committed, PassesPart, phase_of, IsDownClosed}
 use Rattle.reduction.specs.Leads.{Env, env_of, Memory, machine_memory, lead_from, lead, Sound, Paths, LeadsTo, top_path, under_path, taken_paths, dropped_paths}
 use Rattle.reduction.specs.Fits.{has_release, count_release, arity_of, awaited, FitsAct, FitsPhase}
 use Rattle.reduction.specs.Safe.{LeadEach, FramesFit, Owns, IsFree, frames_inside, outer_phase, releases_in_work, count_frames, held_count}
@@ -41,14 +41,14 @@ held_here H p q true later same here rest has = ap H (sym (eq_is p q same)) ∙ 
 held_here H p q false later other here rest has = rest has
 
 -- a body that is at most atomic passes in a new call
-opens_atomic : (b : Basic) (X : Type 0) → AtMost b Atomic → X → Passes Opened b (λ q. X)
+opens_atomic : (b : Basic) (X : Type 0) → AtMost b Atomic → X → PassesPart Opened b (λ q. X)
 opens_atomic Const X below x = record { next = Opened; passes = refl; rest = x }
 opens_atomic Mover X below x = record { next = Opened; passes = refl; rest = x }
 opens_atomic Atomic X below x = record { next = Committed; passes = refl; rest = x }
 opens_atomic Cmpd X below x = absurd (let e : false ≡ true = below in cc)
 opens_atomic Error X below x = absurd (let e : false ≡ true = below in cc)
 
-free_compound : (b : Basic) (X : Type 0) → AtMost b Cmpd → X → Passes Free b (λ q. X)
+free_compound : (b : Basic) (X : Type 0) → AtMost b Cmpd → X → PassesPart Free b (λ q. X)
 free_compound Const X below x = record { next = Free; passes = refl; rest = x }
 free_compound Mover X below x = record { next = Free; passes = refl; rest = x }
 free_compound Atomic X below x = record { next = Free; passes = refl; rest = x }
@@ -56,12 +56,12 @@ free_compound Cmpd X below x = record { next = Free; passes = refl; rest = x }
 free_compound Error X below x = absurd (let e : false ≡ true = below in cc)
 
 -- outside atomic calls the phase stays Free
-free_rest : (G : Phase → Type 0) (b : Basic) → IsDownClosed G → Passes Free b G → G Free
+free_rest : (G : Phase → Type 0) (b : Basic) → IsDownClosed G → PassesPart Free b G → G Free
 free_rest G b falls r = falls Free r.next refl r.rest
 
 -- a body passes in the phase in which its method is entered, and the caller goes on in the phase after it, or outside
-enters : (annotated stands flag : Bool) (body whole : Basic) (G : Phase → Type 0) → IsDownClosed G → AtMost body whole → (annotated ≡ true → AtMost body Atomic) → Passes (phase_of stands flag) whole G
-    → Passes (phase_of (annotated || stands) ((stands && flag) || false)) body (λ q. G (if stands then q else Free))
+enters : (annotated stands flag : Bool) (body whole : Basic) (G : Phase → Type 0) → IsDownClosed G → AtMost body whole → (annotated ≡ true → AtMost body Atomic) → PassesPart (phase_of stands flag) whole G
+    → PassesPart (phase_of (annotated || stands) ((stands && flag) || false)) body (λ q. G (if stands then q else Free))
 enters true true true body whole G falls below atomic r = passes_falls G G Committed Committed body whole refl below falls r
 enters true true false body whole G falls below atomic r = passes_falls G G Opened Opened body whole refl below falls r
 enters false true true body whole G falls below atomic r = passes_falls G G Committed Committed body whole refl below falls r
@@ -184,7 +184,7 @@ module _ (P : Program) (rel : ℕ → List PathData) (A : Assignment) (accepted 
       awaited_same : awaited P k ≡ awaited P m
       awaited_same = ap (λ o. if has_result o then None ∷ [] else []) there ∙ ap (λ b. if b then None ∷ [] else []) facts.result ∙ sym (ap (λ o. if has_result o then None ∷ [] else []) is)
 
-      entered : IsSubset (has_path method.requires_) set → Passes now (A m set) G → Fine P rel A see t stands flag (enter P see t f below rest n k running a true)
+      entered : IsSubset (has_path method.requires_) set → PassesPart now (A m set) G → Fine P rel A see t stands flag (enter P see t f below rest n k running a true)
       entered required r =
           let below_body = accepted.closed k running there inner inner_part (inner_required required) in
           record {
@@ -217,7 +217,7 @@ module _ (P : Program) (rel : ℕ → List PathData) (A : Assignment) (accepted 
             started = tt;
           }
 
-      by_required : (b : Bool) → list_all set (required_paths (slice_get P.methods m)) ≡ b → Passes now (if b then A m set else Error) G → (room : Bool) → Fine P rel A see t stands flag (enter P see t f below rest n k running a room)
+      by_required : (b : Bool) → list_all set (required_paths (slice_get P.methods m)) ≡ b → PassesPart now (if b then A m set else Error) G → (room : Bool) → Fine P rel A see t stands flag (enter P see t f below rest n k running a room)
       by_required b req r false = fault_fine P rel A see t f below rest flag own_frame fault.Depth
       by_required true req r true = entered (all_has method.requires_ set (ap (λ o. list_all set (required_paths o)) (sym is) ∙ req)) r
       by_required false req r true = absurd (no_error G now r)
@@ -228,7 +228,7 @@ module _ (P : Program) (rel : ℕ → List PathData) (A : Assignment) (accepted 
     enter_fine_some c k runs None there = fault_fine P rel A see t f below rest flag own_frame fault.Null
     enter_fine_some c k runs (Some running) there =
         by_required m method is a receives at.set at.sound c k running there runs (list_all (held_under (rel m) (top_path (dropped_paths (length method.params) os)) (taken_paths (length method.params) [] os) at.set) (required_paths (slice_get P.methods m))) refl
-        (subst (λ k. Passes now (call_of P rel A m (top_path (dropped_paths k os)) (taken_paths k [] os) at.set) (λ q. List_fits rest (env_of f.slots) q (awaited P m ++ under_path (dropped_paths k os)))) (ap arity_of is) at.rest)
+        (subst (λ k. PassesPart now (call_of P rel A m (top_path (dropped_paths k os)) (taken_paths k [] os) at.set) (λ q. List_fits rest (env_of f.slots) q (awaited P m ++ under_path (dropped_paths k os)))) (ap arity_of is) at.rest)
         (nat_lt (length (f ∷ below)) most_frames)
 
     dispatch_fine : (c : Option ℕ) → (o : Option ℕ) → target_at P m c ≡ o → Fine P rel A see t stands flag (dispatch P see t f below rest (length method.params) o a)
@@ -249,7 +249,7 @@ module _ (P : Program) (rel : ℕ → List PathData) (A : Assignment) (accepted 
 -- The beginning of a thread.
 
 module _ (P : Program) (rel : ℕ → List PathData) (A : Assignment) (accepted : Accepted P rel A) (see : Shared) (t : ℕ) (owns : Owns t [] see.lock_at) where
-  first_passes : (annotated : Bool) (b : Basic) (X : Type 0) → AtMost b (declared_bound annotated) → X → Passes (phase_of (annotated || false) false) b (λ q. X)
+  first_passes : (annotated : Bool) (b : Basic) (X : Type 0) → AtMost b (declared_bound annotated) → X → PassesPart (phase_of (annotated || false) false) b (λ q. X)
   first_passes true b X below x = opens_atomic b X below x
   first_passes false b X below x = free_compound b X below x
 

@@ -16,7 +16,7 @@ use Rattle.state.specs.Work as W
 use Rattle.state.specs.Work.{Action, Item, Ex, St, Act}
 use Rattle.reduction.specs.Phases.{Phase, phase_le, IsDownClosed, FallsTo}
 use Rattle.reduction.specs.Leads.{Env, Memory, Grows, lead, Paths, MayLeadTo, with_slot, top_path, under_path, taken_paths, dropped_paths}
-use Rattle.reduction.specs.Fits.{At, SlotsAgree, LocalAgrees, stores, has_release, return_phase, pushed, awaited, arity_of, finals_of, FitsAct, FitsItem, FitsPhase}
+use Rattle.reduction.specs.Fits.{At, SlotsAgree, LocalAgrees, stores, has_release, return_phase, pushed, awaited, arity_of, final_field_count, FitsAct, FitsItem, FitsPhase}
 use Rattle.reduction.proofs.PhaseLemmas.{passes_moves, passes_rises, passes_map, freed_falls}
 use Rattle.reduction.proofs.LeadLemmas.{leads_grows, may_shrink, sound_grows, grows_itself}
 
@@ -107,7 +107,7 @@ module _ (P : Program) (rel : ℕ → List PathData) (A : Assignment) (h k : Mem
     )) f
     act_moves (W.Get x) env os p q small f = at_grows P h k grows outer env more _ _ (λ H c. passes_moves _ _ p q (access_of P false x (top_path os) H) small (rests env (get_path P x (top_path os) ∷ under_path os)) c) f
     act_moves (W.Put x) env os p q small f = at_grows P h k grows outer env more _ _ (λ H c. passes_moves _ _ p q (access_of P true x (top_path (under_path os)) H) small (rests env (under_path (under_path os))) c) f
-    act_moves (W.New c) env os p q small f = rests env (None ∷ dropped_paths (finals_of (slice_get P.classes c)) os) p q small f
+    act_moves (W.New c) env os p q small f = rests env (None ∷ dropped_paths (final_field_count (slice_get P.classes c)) os) p q small f
     act_moves (W.Call m) env os p q small f = at_grows P h k grows outer env more _ _ (λ H c.
         passes_moves _ _ p q (call_of P rel A m (top_path (dropped_paths (arity_of (slice_get P.methods m)) os)) (taken_paths (arity_of (slice_get P.methods m)) [] os) H) small
         (rests env (awaited P m ++ under_path (dropped_paths (arity_of (slice_get P.methods m)) os))) c) f

@@ -23,7 +23,7 @@ use Rattle.state.specs.Work.{Item, St, Act}
 use Rattle.state.specs.States.{Frame}
 use Rattle.semantics.specs.Step.{LockIs, Shared, goes_on, acquire, take, take_held, release, release_held}
 use Rattle.semantics.specs.Locking.{taken_again, release_kind}
-use Rattle.reduction.specs.Phases.{Phase, Passes, phase_of, allowed, stepped, freed, IsDownClosed}
+use Rattle.reduction.specs.Phases.{Phase, PassesPart, phase_of, allowed, stepped, freed, IsDownClosed}
 use Rattle.reduction.specs.Leads.{Env, env_of, machine_memory, lead, Sound, Paths, LeadsTo, top_path}
 use Rattle.reduction.specs.Fits.{Fresh, TidyS, stores, has_release, count_release, awaited, FitsAct, FitsPhase}
 use Rattle.reduction.specs.Safe.{LeadEach, FramesFit, Owns, frames_inside, outer_phase, releases_in_work, count_frames, held_count}
@@ -130,7 +130,7 @@ module _ (P : Program) (rel : ℕ → List PathData) (A : Assignment) (see : Sha
           ref_same : {x y : Address} → value.Ref x ≡ value.Ref y → x ≡ y
           ref_same {x = x} {y = y} e = cc
 
-      held_fits : H p ≡ true → Passes now (effect P rel A s H) Leaves → List_fits part slots now []
+      held_fits : H p ≡ true → PassesPart now (effect P rel A s H) Leaves → List_fits part slots now []
       held_fits has r = record {
         set = H;
         sound = sound_more P (machine_memory P see.object_at) slots H (λ b. has_release b rest || releases_in_work below b) (λ b. (address_eq b a || has_release b rest) || releases_in_work below b)
@@ -153,7 +153,7 @@ module _ (P : Program) (rel : ℕ → List PathData) (A : Assignment) (see : Sha
       new_fresh q false is has = fresh.at q has
 
       -- the path isn't in the set: the part is judged with it
-      new_fits : Passes now (lift_of (effect P rel A s (with_path p H))) Leaves → List_fits part slots now []
+      new_fits : PassesPart now (lift_of (effect P rel A s (with_path p H))) Leaves → List_fits part slots now []
       new_fits r = record {
         set = with_path p H;
         sound = record { at = λ q has. new_at q (Rattle.paths.specs.Paths.path_eq p q) refl has };
@@ -170,7 +170,7 @@ module _ (P : Program) (rel : ℕ → List PathData) (A : Assignment) (see : Sha
       not_free none has = none_counted (held_count t (see.lock_at a)) (count_release a rest + count_frames a below) (ap (held_count t) (sym none)) (own_rest a) (sym (held_counts a rest below) ∙ has)
 
       -- what stands after the acquire fits, and a free lock may be taken
-      taken_fits : (b : Bool) → H p ≡ b → Passes now (sync_effect b (effect P rel A s H) (effect P rel A s (with_path p H))) Leaves → List_fits part slots now [] × (see.lock_at a ≡ None → allowed now Right ≡ true)
+      taken_fits : (b : Bool) → H p ≡ b → PassesPart now (sync_effect b (effect P rel A s H) (effect P rel A s (with_path p H))) Leaves → List_fits part slots now [] × (see.lock_at a ≡ None → allowed now Right ≡ true)
       taken_fits true is r = (held_fits is r, λ none. absurd (not_free none (held_part is)))
       taken_fits false is r = (new_fits r, λ none. lift_allows Leaves now (effect P rel A s (with_path p H)) r)
 

@@ -166,24 +166,24 @@ machine_moves P typed = record {
 
 -- The system's runs, entries and own states are the machine's.
 module _ (P : Program) where
-  pub run_same : (s : List ℕ) (q : State) → of.run_from (machine P) q s ≡ run_from P q s
+  pub run_same : (s : List ℕ) (q : State) → of.system_run_from (machine P) q s ≡ run_from P q s
   run_same [] q = refl
   run_same (t ∷ s) q = by (outcome P q t) (λ next. run_same s next)
     where
-      by : (o : Outcome) → ((next : State) → of.run_from (machine P) next s ≡ run_from P next s) → of.run_then (step_to q t o) (λ next. of.run_from (machine P) next s) ≡ option_and_then (λ next. run_from P next s) (state_after q t o)
+      by : (o : Outcome) → ((next : State) → of.system_run_from (machine P) next s ≡ run_from P next s) → of.run_then (step_to q t o) (λ next. of.system_run_from (machine P) next s) ≡ option_and_then (λ next. run_from P next s) (state_after q t o)
       by (Moves m) later = later (moved t m q)
       by Absent later = refl
       by IsDone later = refl
       by (HadFaulted why) later = refl
       by (Waits a h) later = refl
 
-  pub entries_same : (s : List ℕ) (q : State) (place : ℕ) → of.entries_from (machine P) q place s ≡ entries_from P q place s
+  pub entries_same : (s : List ℕ) (q : State) (place : ℕ) → of.system_entries_from (machine P) q place s ≡ entries_from P q place s
   entries_same [] q place = refl
   entries_same (t ∷ s) q place = by (outcome P q t) (λ next. entries_same s next (place + 1))
     where
-      by : (o : Outcome) → ((next : State) → of.entries_from (machine P) next (place + 1) s ≡ entries_from P next (place + 1) s)
-          → of.entry_then (machine P) place t (step_to q t o) (λ next. of.entries_from (machine P) next (place + 1) s) ≡ entry_then P q place t o (λ next. entries_from P next (place + 1) s)
-      by (Moves m) later = ap (λ es. of.entry_then (machine P) place t (step_to q t (Moves m)) (λ next. es)) (later (moved t m q))
+      by : (o : Outcome) → ((next : State) → of.system_entries_from (machine P) next (place + 1) s ≡ entries_from P next (place + 1) s)
+          → of.system_entry_then (machine P) place t (step_to q t o) (λ next. of.system_entries_from (machine P) next (place + 1) s) ≡ entry_then P q place t o (λ next. entries_from P next (place + 1) s)
+      by (Moves m) later = ap (λ es. of.system_entry_then (machine P) place t (step_to q t (Moves m)) (λ next. es)) (later (moved t m q))
       by Absent later = refl
       by IsDone later = refl
       by (HadFaulted why) later = refl
@@ -194,7 +194,7 @@ module _ (P : Program) where
   owns_same t (u ∷ s) q = by (outcome P q u) (λ next. owns_same t s next)
     where
       by : (o : Outcome) → ((next : State) → of.owns_from (machine P) next t s ≡ own_states P next t s)
-          → of.owns_then (machine P) t u (step_to q u o) (λ next. of.owns_from (machine P) next t s) ≡ owns_then t u (λ next. own_states P next t s) (state_after q u o)
+          → of.system_owns_then (machine P) t u (step_to q u o) (λ next. of.owns_from (machine P) next t s) ≡ owns_then t u (λ next. own_states P next t s) (state_after q u o)
       by (Moves m) later = ap (λ xs. if u == t then slice_get (moved u m q).threads u ∷ xs else xs) (later (moved u m q))
       by Absent later = refl
       by IsDone later = refl

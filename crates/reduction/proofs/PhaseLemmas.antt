@@ -9,7 +9,7 @@ use Rattle.rules.proofs.BasicLemmas.{every, each, implies, follows}
 use Rattle.state.specs.declared.value.StepKind.{StepKind}
 use Rattle.state.specs.declared.value.StepKind.TheVariants.{Both, Right, Left, Other, Bare}
 use Rattle.semantics.specs.Units.{is_commit}
-use Rattle.reduction.specs.Phases.{Phase, Free, Opened, Committed, phase_of, phase_le, phase_after, freed, allowed, stepped, Passes, IsDownClosed, FallsTo}
+use Rattle.reduction.specs.Phases.{Phase, Free, Opened, Committed, phase_of, phase_le, phase_after, freed, allowed, stepped, PassesPart, IsDownClosed, FallsTo}
 use Rattle.std.specs.Prelude.{◌&&◌, ◌||◌}
 
 -- in sequence, one phase after the other
@@ -71,7 +71,7 @@ pub falls_to : (p q r : Phase) (a b : Basic) → phase_le p q ≡ true → AtMos
 falls_to p q r a b small below is =
     some_le (phase_after p a) r (subst (λ o. le_some (phase_after p a) o ≡ true) is (follows (below_of a b) (le_some (phase_after p a) (phase_after q b)) (after_falls p q small a b) below))
 
-pub passes_falls : (K L : Phase → Type 0) (p q : Phase) (a b : Basic) → phase_le p q ≡ true → AtMost a b → FallsTo K L → Passes q b K → Passes p a L
+pub passes_falls : (K L : Phase → Type 0) (p q : Phase) (a b : Basic) → phase_le p q ≡ true → AtMost a b → FallsTo K L → PassesPart q b K → PassesPart p a L
 passes_falls K L p q a b small below falls r =
     let s = falls_to p q r.next a b small below r.passes in
     record { next = s.0; passes = s.1; rest = falls s.0 r.next s.2 r.rest }
@@ -79,17 +79,17 @@ passes_falls K L p q a b small below falls r =
 same_basic : (b : Basic) → AtMost b b
 same_basic = each (λ b. below_of b b) refl
 
-pub passes_moves : (K L : Phase → Type 0) (p q : Phase) (b : Basic) → phase_le p q ≡ true → FallsTo K L → Passes q b K → Passes p b L
+pub passes_moves : (K L : Phase → Type 0) (p q : Phase) (b : Basic) → phase_le p q ≡ true → FallsTo K L → PassesPart q b K → PassesPart p b L
 passes_moves K L p q b small falls r = passes_falls K L p q b b small (same_basic b) falls r
 
-pub passes_map : (K L : Phase → Type 0) (p : Phase) (b : Basic) → ((q : Phase) → K q → L q) → Passes p b K → Passes p b L
+pub passes_map : (K L : Phase → Type 0) (p : Phase) (b : Basic) → ((q : Phase) → K q → L q) → PassesPart p b K → PassesPart p b L
 passes_map K L p b f r = record { next = r.next; passes = r.passes; rest = f r.next r.rest }
 
 both_parts : (o : Option Phase) (b : Basic) (r : Phase) → option_and_then (λ q. phase_after q b) o ≡ Some r → (q : Phase) × (o ≡ Some q) × (phase_after q b ≡ Some r)
 both_parts None b r h = absurd cc
 both_parts (Some q) b r h = (q, refl, h)
 
-pub passes_seq : (K : Phase → Type 0) (p : Phase) (a b : Basic) → Passes p (seq_of a b) K → Passes p a (λ q. Passes q b K)
+pub passes_seq : (K : Phase → Type 0) (p : Phase) (a b : Basic) → PassesPart p (seq_of a b) K → PassesPart p a (λ q. PassesPart q b K)
 passes_seq K p a b r =
     let parts = both_parts (phase_after p a) b r.next (sym (after_seq p a b) ∙ r.passes) in
     record { next = parts.0; passes = parts.1; rest = record { next = r.next; passes = parts.2; rest = r.rest } }
@@ -100,31 +100,31 @@ rises Opened b = each (λ b. le_some (Some Opened) (phase_after Opened b)) refl 
 rises Committed b = each (λ b. le_some (Some Committed) (phase_after Committed b)) refl b
 
 -- no part leads to a smaller phase
-pub passes_rises : (K : Phase → Type 0) (p : Phase) (b : Basic) → IsDownClosed K → Passes p b K → K p
+pub passes_rises : (K : Phase → Type 0) (p : Phase) (b : Basic) → IsDownClosed K → PassesPart p b K → K p
 passes_rises K p b falls r = falls p r.next (subst (λ o. le_some (Some p) o ≡ true) r.passes (rises p b)) r.rest
 
-pub const_stays : (K : Phase → Type 0) (p : Phase) → Passes p Const K → K p
+pub const_stays : (K : Phase → Type 0) (p : Phase) → PassesPart p Const K → K p
 const_stays K Free r = let same : r.next ≡ Free = cc (r.passes) in subst K same r.rest
 const_stays K Opened r = let same : r.next ≡ Opened = cc (r.passes) in subst K same r.rest
 const_stays K Committed r = let same : r.next ≡ Committed = cc (r.passes) in subst K same r.rest
 
-pub const_passes : (K : Phase → Type 0) (p : Phase) → K p → Passes p Const K
+pub const_passes : (K : Phase → Type 0) (p : Phase) → K p → PassesPart p Const K
 const_passes K Free k = record { next = Free; passes = refl; rest = k }
 const_passes K Opened k = record { next = Opened; passes = refl; rest = k }
 const_passes K Committed k = record { next = Committed; passes = refl; rest = k }
 
-pub mover_stays : (K : Phase → Type 0) (p : Phase) → Passes p Mover K → K p
+pub mover_stays : (K : Phase → Type 0) (p : Phase) → PassesPart p Mover K → K p
 mover_stays K Free r = let same : r.next ≡ Free = cc (r.passes) in subst K same r.rest
 mover_stays K Opened r = let same : r.next ≡ Opened = cc (r.passes) in subst K same r.rest
 mover_stays K Committed r = let same : r.next ≡ Committed = cc (r.passes) in subst K same r.rest
 
 -- after an atomic part the phase is that after a step that commits
-pub atomic_stays : (K : Phase → Type 0) (p : Phase) → Passes p Atomic K → K (freed false p)
+pub atomic_stays : (K : Phase → Type 0) (p : Phase) → PassesPart p Atomic K → K (freed false p)
 atomic_stays K Free r = let same : r.next ≡ Free = cc (r.passes) in subst K same r.rest
 atomic_stays K Opened r = let same : r.next ≡ Committed = cc (r.passes) in subst K same r.rest
 atomic_stays K Committed r = absurd (let none : None ≡ Some r.next = r.passes in cc)
 
-pub no_error : (K : Phase → Type 0) (p : Phase) → Passes p Error K → ⊥
+pub no_error : (K : Phase → Type 0) (p : Phase) → PassesPart p Error K → ⊥
 no_error K Free r = let none : None ≡ Some r.next = r.passes in absurd cc
 no_error K Opened r = let none : None ≡ Some r.next = r.passes in absurd cc
 no_error K Committed r = let none : None ≡ Some r.next = r.passes in absurd cc
@@ -166,13 +166,13 @@ some_lift stays None r h = absurd cc
 some_lift stays (Some s) r h = (s, refl, h)
 
 -- a part and then the release of its lock, where the part's effect was lifted
-pub passes_lift : (K : Phase → Type 0) (stays : Bool) (p : Phase) (b : Basic) → IsDownClosed K → Passes p (lift_of b) K → Passes p b (λ q. K (freed stays q))
+pub passes_lift : (K : Phase → Type 0) (stays : Bool) (p : Phase) (b : Basic) → IsDownClosed K → PassesPart p (lift_of b) K → PassesPart p b (λ q. K (freed stays q))
 passes_lift K stays p b falls r =
     let s = some_lift stays (phase_after p b) r.next (subst (λ o. le_some (option_map (freed stays) (phase_after p b)) o ≡ true) r.passes (lifts stays p b)) in
     record { next = s.0; passes = s.1; rest = falls (freed stays s.0) r.next s.2 r.rest }
 
 -- a lock that isn't held is taken in no phase after the commit
-pub lift_allows : (K : Phase → Type 0) (p : Phase) (b : Basic) → Passes p (lift_of b) K → allowed p Right ≡ true
+pub lift_allows : (K : Phase → Type 0) (p : Phase) (b : Basic) → PassesPart p (lift_of b) K → allowed p Right ≡ true
 lift_allows K Free b r = refl
 lift_allows K Opened b r = refl
 lift_allows K Committed Const r = let none : None ≡ Some r.next = r.passes in absurd cc
@@ -191,7 +191,7 @@ left_allowed Free = refl
 left_allowed Opened = refl
 left_allowed Committed = refl
 
-pub atomic_allows : (K : Phase → Type 0) (p : Phase) → Passes p Atomic K → allowed p Other ≡ true
+pub atomic_allows : (K : Phase → Type 0) (p : Phase) → PassesPart p Atomic K → allowed p Other ≡ true
 atomic_allows K Free r = refl
 atomic_allows K Opened r = refl
 atomic_allows K Committed r = let none : None ≡ Some r.next = r.passes in absurd cc
@@ -215,5 +215,5 @@ phase_stepped false committed Other = refl
 phase_stepped false committed Bare = refl
 
 -- two parts that pass one after the other pass in sequence
-pub passes_join : (K : Phase → Type 0) (p : Phase) (a b : Basic) → Passes p a (λ q. Passes q b K) → Passes p (seq_of a b) K
+pub passes_join : (K : Phase → Type 0) (p : Phase) (a b : Basic) → PassesPart p a (λ q. PassesPart q b K) → PassesPart p (seq_of a b) K
 passes_join K p a b r = record { next = r.rest.next; passes = after_seq p a b ∙ ap (option_and_then (λ q. phase_after q b)) r.passes ∙ r.rest.passes; rest = r.rest.rest }

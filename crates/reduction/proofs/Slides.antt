@@ -5,7 +5,7 @@ use Rattle.std.proofs.lemmas.Bool.{eqb-true}
 use Rattle.state.specs.declared.value.StepKind.TheVariants.{Bare}
 use Rattle.semantics.specs.Units.{Entry}
 use Rattle.semantics.specs.Words.{moves_right, moves_left}
-use Rattle.reduction.specs.Systems.{System, IsThread, owns_from, owns_then}
+use Rattle.reduction.specs.Systems.{System, IsThreadOfSystem, owns_from, system_owns_then}
 use Rattle.reduction.specs.Movers.{Swaps, HasMovers}
 use Rattle.reduction.specs.Runs.{FitsEntry, Run}
 use Rattle.reduction.proofs.Shape.{Each, each_more}
@@ -13,18 +13,18 @@ use Rattle.reduction.proofs.Shape.{Each, each_more}
 -- an entry that may pass another: of another thread, and by its kind or by the other's
 pub record Passes {S O : Type 0} (M : System S O) (q : S) (e f : Entry) : Type 0 where
   pub apart : e.thread ≢ f.thread
-  pub kinds : ((moves_right e.kind ≡ true) × (f.kind ≢ Bare)) ⊎ ((moves_left f.kind ≡ true) × (e.kind ≢ Bare) × IsThread M q f.thread)
+  pub kinds : ((moves_right e.kind ≡ true) × (f.kind ≢ Bare)) ⊎ ((moves_left f.kind ≡ true) × (e.kind ≢ Bare) × IsThreadOfSystem M q f.thread)
 
 -- the threads of one state are there in another
 abbrev pub Grows : {S O : Type 0} → System S O → S → S → Type 0
-Grows M q r = (u : ℕ) → IsThread M q u → IsThread M r u
+Grows M q r = (u : ℕ) → IsThreadOfSystem M q u → IsThreadOfSystem M r u
 
 -- an entry still may pass where more threads are there
 passes_later : {S O : Type 0} (M : System S O) (q r : S) (e f : Entry) → Grows M q r → Passes M q e f → Passes M r e f
 passes_later M q r e f more p = record { apart = p.apart; kinds = by p.kinds }
   where
-    by : ((moves_right e.kind ≡ true) × (f.kind ≢ Bare)) ⊎ ((moves_left f.kind ≡ true) × (e.kind ≢ Bare) × IsThread M q f.thread)
-        → ((moves_right e.kind ≡ true) × (f.kind ≢ Bare)) ⊎ ((moves_left f.kind ≡ true) × (e.kind ≢ Bare) × IsThread M r f.thread)
+    by : ((moves_right e.kind ≡ true) × (f.kind ≢ Bare)) ⊎ ((moves_left f.kind ≡ true) × (e.kind ≢ Bare) × IsThreadOfSystem M q f.thread)
+        → ((moves_right e.kind ≡ true) × (f.kind ≢ Bare)) ⊎ ((moves_left f.kind ≡ true) × (e.kind ≢ Bare) × IsThreadOfSystem M r f.thread)
     by (inl right) = inl right
     by (inr left) = inr (left.0, left.1, more f.thread left.2)
 
@@ -40,7 +40,7 @@ module _ {S O : Type 0} {M : System S O} {IsSound : S → Type 0} (laws : HasMov
   pub sound_fits : (q r : S) (e : Entry) → IsSound q → FitsEntry M q e r → IsSound r
   sound_fits q r e s f = laws.sound q r e.thread e.kind s f.steps
 
-  pub fits_there : (q r : S) (e : Entry) → FitsEntry M q e r → IsThread M q e.thread
+  pub fits_there : (q r : S) (e : Entry) → FitsEntry M q e r → IsThreadOfSystem M q e.thread
   fits_there q r e f = laws.stepper q r e.thread e.kind f.steps
 
   pub fits_grow : (q r : S) (e : Entry) → FitsEntry M q e r → Grows M q r
@@ -52,7 +52,7 @@ module _ {S O : Type 0} {M : System S O} {IsSound : S → Type 0} (laws : HasMov
 
   -- a thread's own from an entry on
   owns_first : (q mid : S) (e : Entry) (s : List ℕ) (k : ℕ) → FitsEntry M q e mid → owns_from M q k (e.thread ∷ s) ≡ (if e.thread == k then M.own mid e.thread ∷ owns_from M mid k s else owns_from M mid k s)
-  owns_first q mid e s k f = ap (λ o. owns_then M k e.thread o (λ next. owns_from M next k s)) f.steps
+  owns_first q mid e s k f = ap (λ o. system_owns_then M k e.thread o (λ next. owns_from M next k s)) f.steps
 
   -- one entry before both
   pub behind : (q mid r : S) (e : Entry) (xs ys : List Entry) → FitsEntry M q e mid → Becomes M mid xs ys r → Becomes M q (e ∷ xs) (e ∷ ys) r
@@ -79,7 +79,7 @@ module _ {S O : Type 0} {M : System S O} {IsSound : S → Type 0} (laws : HasMov
   swaps : (q mid r : S) (e f : Entry) → IsSound q → FitsEntry M q e mid → FitsEntry M mid f r → Passes M q e f → Swaps M q e.thread e.kind f.thread f.kind r
   swaps q mid r e f sound fe ff p = by p.kinds
     where
-      by : ((moves_right e.kind ≡ true) × (f.kind ≢ Bare)) ⊎ ((moves_left f.kind ≡ true) × (e.kind ≢ Bare) × IsThread M q f.thread) → Swaps M q e.thread e.kind f.thread f.kind r
+      by : ((moves_right e.kind ≡ true) × (f.kind ≢ Bare)) ⊎ ((moves_left f.kind ≡ true) × (e.kind ≢ Bare) × IsThreadOfSystem M q f.thread) → Swaps M q e.thread e.kind f.thread f.kind r
       by (inl is) = laws.right q mid r e.thread f.thread e.kind f.kind sound p.apart fe.steps ff.steps is.0 is.1
       by (inr is) = laws.left q mid r e.thread f.thread e.kind f.kind sound p.apart fe.steps ff.steps is.0 is.1 is.2
 

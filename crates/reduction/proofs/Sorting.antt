@@ -10,7 +10,7 @@ use Rattle.semantics.specs.Words.{moves_right, moves_left, is_reducible}
 use Rattle.semantics.proofs.WordLemmas.{left_reducible}
 use Rattle.reduction.proofs.Shape.{Each, each_more, flat, has, got, without, IsOf, IsFine, IsLater, InTurn, fine_above, commit_added, each_in_order}
 use Rattle.reduction.proofs.Ordering.{added_by, has_by, got_by, without_by, least_first, added_in_order, commit_in_order, alone_in_order, got_each, has_in_order}
-use Rattle.reduction.specs.Systems.{System, IsThread}
+use Rattle.reduction.specs.Systems.{System, IsThreadOfSystem}
 use Rattle.reduction.specs.Movers.{HasMovers}
 use Rattle.reduction.specs.Runs.{Run}
 use Rattle.reduction.proofs.Slides.{Passes, Becomes, behind, becomes_behind, becomes_itself, becomes_then, slide, slide_all, sound_fits, fits_there, fits_grow}
@@ -200,7 +200,7 @@ module _ {S O : Type 0} {M : System S O} {IsSound : S → Type 0} (laws : HasMov
           (λ again. becomes_behind laws q r y (e ∷ flat us) (flat (added e us)) s again (λ mid k more later. rest (sym (has_by e.thread y us false is) ∙ h) mid k later)))
 
   -- entries of other threads pass those of a thread that is there, where these move left
-  passing : (q : S) (ys gs : List Entry) {t : ℕ} → IsThread M q t → Each (λ x. x.thread ≡ t → ⊥) ys → Each NotBare ys → Each (IsOf t) gs → Each (λ e. moves_left e.kind ≡ true) gs → Each (λ y. Each (Passes M q y) gs) ys
+  passing : (q : S) (ys gs : List Entry) {t : ℕ} → IsThreadOfSystem M q t → Each (λ x. x.thread ≡ t → ⊥) ys → Each NotBare ys → Each (IsOf t) gs → Each (λ e. moves_left e.kind ≡ true) gs → Each (λ y. Each (Passes M q y) gs) ys
   passing q [] gs there other quiet ones lefts = tt
   passing q (y ∷ ys) gs {t} there other quiet ones lefts = (each_one gs ones lefts, passing q ys gs there other.1 quiet.1 ones lefts)
     where
@@ -209,19 +209,19 @@ module _ {S O : Type 0} {M : System S O} {IsSound : S → Type 0} (laws : HasMov
       each_one (x ∷ xs) o l = (
         record {
           apart = λ z. absurd (other.0 (z ∙ o.0));
-          kinds = inr (l.0, quiet.0, subst (IsThread M q) (sym o.0) there);
+          kinds = inr (l.0, quiet.0, subst (IsThreadOfSystem M q) (sym o.0) there);
         },
         each_one xs o.1 l.1,
       )
 
   -- a unit all of whose entries move left goes to the front
-  pull : (n t : ℕ) (us : List (List Entry)) → Each (IsFine n) us → Each (Each NotBare) us → has t us ≡ true → Each (λ e. moves_left e.kind ≡ true) (got t us) → (q r : S) → IsSound q → IsThread M q t → Run M q (flat us) r
+  pull : (n t : ℕ) (us : List (List Entry)) → Each (IsFine n) us → Each (Each NotBare) us → has t us ≡ true → Each (λ e. moves_left e.kind ≡ true) (got t us) → (q r : S) → IsSound q → IsThreadOfSystem M q t → Run M q (flat us) r
       → Becomes M q (flat us) (got t us ++ flat (without t us)) r
   pull n t [] fine quiet h left q r s there run = absurd cc
   pull n t (y ∷ us) fine quiet h left q r s there run = by (is_of_thread t y) refl (λ has left mid k lt later. pull n t us fine.1 quiet.1 has left mid r k lt later)
     where
       by : (b : Bool) → is_of_thread t y ≡ b
-          → (has t us ≡ true → Each (λ e. moves_left e.kind ≡ true) (got t us) → (mid : S) → IsSound mid → IsThread M mid t → Run M mid (flat us) r → Becomes M mid (flat us) (got t us ++ flat (without t us)) r)
+          → (has t us ≡ true → Each (λ e. moves_left e.kind ≡ true) (got t us) → (mid : S) → IsSound mid → IsThreadOfSystem M mid t → Run M mid (flat us) r → Becomes M mid (flat us) (got t us ++ flat (without t us)) r)
           → Becomes M q (flat (y ∷ us)) (got t (y ∷ us) ++ flat (without t (y ∷ us))) r
       by true is rest = subst (λ z. Becomes M q (flat (y ∷ us)) (z ++ flat (without t (y ∷ us))) r) (sym (got_by t y us true is))
           (subst (λ z. Becomes M q (flat (y ∷ us)) (y ++ flat z) r) (sym (without_by t y us true is)) (becomes_itself laws q r (flat (y ∷ us)) run))

@@ -16,7 +16,7 @@ use Rattle.core_program.specs.Locks.{is_class, leads_on, path_of}
 use Rattle.core_program.specs.Types.{NodeType, ValueT, NullT, VoidT, int_type, boolean_type, class_type, result_type, fits, of_ints, of_equals, binary_type, Variable, field_type, field_types, parameter_types, HasType, FitEach}
 use Rattle.core_program.specs.Typed.{gives_value, is_final_at, IsTyped}
 use Rattle.semantics.specs.Step.{has_result}
-use Rattle.reduction.specs.Fits.{arity_of, finals_of, argument_count, valued, TidyE, TidyEach}
+use Rattle.reduction.specs.Fits.{arity_of, final_field_count, argument_count, valued, TidyE, TidyEach}
 
 -- Types that give a value.
 
@@ -198,7 +198,7 @@ module _ (P : Program) (typed : IsTyped P) (class : ℕ) (scope : List Variable)
     )
     typed_tidy (NewE c args) T (made, is, each, ty) = (
       each_tidy args (field_types P made.finals) each,
-      ap finals_of is ∙ ap length (typed.classes c made is).finals
+      ap final_field_count is ∙ ap length (typed.classes c made is).finals
           ∙ sym (final_count P made.fields) ∙ ap (λ fs. length (field_types P fs)) (sym (typed.classes c made is).finals) ∙ fit_count args (field_types P made.finals) each,
     )
 

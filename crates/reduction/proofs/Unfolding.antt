@@ -21,9 +21,9 @@ use Rattle.state.specs.declared.value.Value.{Value}
 use Rattle.state.specs.Work as W
 use Rattle.state.specs.Work.{Action, Item, Ex, St, Act, Next, exprs_items, stmts_items, gets, open_expr, open_new, open_stmt, open_block, opened, first_release, open_return, settled, settled_some, unfolded}
 use Rattle.semantics.specs.Step.{has_result}
-use Rattle.reduction.specs.Phases.{Phase, Passes, IsDownClosed, freed}
+use Rattle.reduction.specs.Phases.{Phase, PassesPart, IsDownClosed, freed}
 use Rattle.reduction.specs.Leads.{Env, Memory, Sound, Paths, MayLeadTo, with_slot, top_path, under_path, taken_paths}
-use Rattle.reduction.specs.Fits.{SlotsAgree, Fresh, FreshEach, TidyE, TidyEach, TidyS, TidyBlock, argument_count, arity_of, finals_of, stores, stores_each, has_release, return_phase, pushed, awaited, FitsPhase, FitsNext, Opens}
+use Rattle.reduction.specs.Fits.{SlotsAgree, Fresh, FreshEach, TidyE, TidyEach, TidyS, TidyBlock, argument_count, arity_of, final_field_count, stores, stores_each, has_release, return_phase, pushed, awaited, FitsPhase, FitsNext, Opens}
 use Rattle.reduction.proofs.PhaseLemmas.{passes_map, passes_seq, const_stays, const_passes, mover_stays}
 use Rattle.reduction.proofs.LeadLemmas.{sound_more}
 use Rattle.reduction.proofs.FitLemmas.{fits_left, same_slot, other_slot}
@@ -45,7 +45,7 @@ module _ (P : Program) (rel : ℕ → List PathData) (A : Assignment) (h : Memor
   held_at more a = has_release a more || outer a
 
   exprs_fit : (es : Exprs) (work : List Item) (env : Env) (H : Held) (os : Paths) (p : Phase) → Sound P h env H (held_at work) → TidyEach P es
-      → Passes p (exprs_effect P rel A es H) (λ q. FitsPhase P rel A h outer K work env q (pushed_each P es os)) → FitsPhase P rel A h outer K (exprs_items es work) env p os
+      → PassesPart p (exprs_effect P rel A es H) (λ q. FitsPhase P rel A h outer K work env q (pushed_each P es os)) → FitsPhase P rel A h outer K (exprs_items es work) env p os
   exprs_fit no_exprs work env H os p s tidy r = const_stays _ p r
   exprs_fit (and_expr e es) work env H os p s tidy r = record {
     set = H;
@@ -58,12 +58,12 @@ module _ (P : Program) (rel : ℕ → List PathData) (A : Assignment) (h : Memor
     );
   }
 
-  new_fits : (c : ℕ) (args : Exprs) (more : List Item) (env : Env) (H : Held) (os : Paths) (p : Phase) → finals_of (slice_get P.classes c) ≡ argument_count args
+  new_fits : (c : ℕ) (args : Exprs) (more : List Item) (env : Env) (H : Held) (os : Paths) (p : Phase) → final_field_count (slice_get P.classes c) ≡ argument_count args
       → FitsPhase P rel A h outer K more env p (None ∷ os) → FitsPhase P rel A h outer K (Act (W.New c) ∷ more) env p (pushed_each P args os)
-  new_fits c args more env H os p count f = subst (λ z. FitsPhase P rel A h outer K more env p (None ∷ z)) (sym (dropped_all P args (finals_of (slice_get P.classes c)) os count)) f
+  new_fits c args more env H os p count f = subst (λ z. FitsPhase P rel A h outer K more env p (None ∷ z)) (sym (dropped_all P args (final_field_count (slice_get P.classes c)) os count)) f
 
   call_fits : (e : Expr) (m : ℕ) (args : Exprs) (more : List Item) (env : Env) (H : Held) (os : Paths) (p : Phase) → Sound P h env H (held_at more) → arity_of (slice_get P.methods m) ≡ argument_count args
-      → Passes p (call_of P rel A m (path_of P e) (paths_of P args) H) (λ q. FitsPhase P rel A h outer K more env q (pushed P (CallE e m args) os))
+      → PassesPart p (call_of P rel A m (path_of P e) (paths_of P args) H) (λ q. FitsPhase P rel A h outer K more env q (pushed P (CallE e m args) os))
       → FitsPhase P rel A h outer K (Act (W.Call m) ∷ more) env p (pushed_each P args (path_of P e ∷ os))
   call_fits e m args more env H os p s count r =
       let n = arity_of (slice_get P.methods m) in
@@ -72,14 +72,14 @@ module _ (P : Program) (rel : ℕ → List PathData) (A : Assignment) (h : Memor
       record {
         set = H;
         sound = s;
-        rest = subst (λ z. Passes p (call_of P rel A m (top_path z) (taken_paths n [] (pushed_each P args (path_of P e ∷ os))) H) (λ q. FitsPhase P rel A h outer K more env q (awaited P m ++ under_path z))) (sym below)
-            (subst (λ z. Passes p (call_of P rel A m (path_of P e) z H) (λ q. FitsPhase P rel A h outer K more env q (awaited P m ++ os))) (sym taken)
+        rest = subst (λ z. PassesPart p (call_of P rel A m (top_path z) (taken_paths n [] (pushed_each P args (path_of P e ∷ os))) H) (λ q. FitsPhase P rel A h outer K more env q (awaited P m ++ under_path z))) (sym below)
+            (subst (λ z. PassesPart p (call_of P rel A m (path_of P e) z H) (λ q. FitsPhase P rel A h outer K more env q (awaited P m ++ os))) (sym taken)
             (passes_map _ _ p (call_of P rel A m (path_of P e) (paths_of P args) H) (λ q g. subst (λ z. FitsPhase P rel A h outer K more env q z) (call_pushed P (has_result (slice_get P.methods m)) os) g) r));
       }
 
   mutual
     pub expr_opens : (e : Expr) (more : List Item) (env : Env) (H : Held) (os : Paths) (p : Phase) → Sound P h env H (held_at more) → TidyE P e
-        → Passes p (expr_effect P rel A e H) (λ q. FitsPhase P rel A h outer K more env q (pushed P e os)) → FitsNext P rel A h outer K (open_expr e more) env p os
+        → PassesPart p (expr_effect P rel A e H) (λ q. FitsPhase P rel A h outer K more env q (pushed P e os)) → FitsNext P rel A h outer K (open_expr e more) env p os
     expr_opens (IntE n) more env H os p s tidy r = const_stays _ p r
     expr_opens (TruthE b) more env H os p s tidy r = const_stays _ p r
     expr_opens NullE more env H os p s tidy r = const_stays _ p r
@@ -127,8 +127,8 @@ module _ (P : Program) (rel : ℕ → List PathData) (A : Assignment) (h : Memor
         (passes_seq _ p (expr_effect P rel A e H) (seq_of (exprs_effect P rel A args H) (call_of P rel A m (path_of P e) (paths_of P args) H)) r))
     expr_opens (NewE c args) more env H os p s tidy r = new_opens c args more env H os p s tidy.0 tidy.1 (passes_seq _ p (exprs_effect P rel A args H) Mover r)
 
-    new_opens : (c : ℕ) (args : Exprs) (more : List Item) (env : Env) (H : Held) (os : Paths) (p : Phase) → Sound P h env H (held_at more) → TidyEach P args → finals_of (slice_get P.classes c) ≡ argument_count args
-        → Passes p (exprs_effect P rel A args H) (λ x. Passes x Mover (λ q. FitsPhase P rel A h outer K more env q (None ∷ os))) → FitsNext P rel A h outer K (open_new c args more) env p os
+    new_opens : (c : ℕ) (args : Exprs) (more : List Item) (env : Env) (H : Held) (os : Paths) (p : Phase) → Sound P h env H (held_at more) → TidyEach P args → final_field_count (slice_get P.classes c) ≡ argument_count args
+        → PassesPart p (exprs_effect P rel A args H) (λ x. PassesPart x Mover (λ q. FitsPhase P rel A h outer K more env q (None ∷ os))) → FitsNext P rel A h outer K (open_new c args more) env p os
     new_opens c no_exprs more env H os p s tidy count r = new_fits c no_exprs more env H os p count (mover_stays _ p (const_stays _ p r))
     new_opens c (and_expr e es) more env H os p s tidy count r = expr_opens e (exprs_items es (Act (W.New c) ∷ more)) env H os p
         (sound_more P h env H (held_at more) (held_at (exprs_items es (Act (W.New c) ∷ more))) (λ a is. or_first (has_release a more) _ (outer a) (sym (exprs_release a es (Act (W.New c) ∷ more))) is) s) tidy.1
@@ -144,7 +144,7 @@ module _ (P : Program) (rel : ℕ → List PathData) (A : Assignment) (h : Memor
 
   -- the statements of a block, each at the set that those before it leave
   block_fits : (ss : Stmts) (more : List Item) (env : Env) (H : Held) (p : Phase) → Sound P h env H (held_at more) → FreshEach H ss → TidyBlock P ss
-      → Passes p (block_effect P rel A ss H) (λ q. (later : Env) → Kept (stores_each ss) env later → FitsPhase P rel A h outer K more later q []) → FitsPhase P rel A h outer K (stmts_items ss more) env p []
+      → PassesPart p (block_effect P rel A ss H) (λ q. (later : Env) → Kept (stores_each ss) env later → FitsPhase P rel A h outer K more later q []) → FitsPhase P rel A h outer K (stmts_items ss more) env p []
   block_fits no_stmts more env H p s fresh tidy r = const_stays _ p r env (λ y other. refl)
   block_fits (and_stmt st ss) more env H p s fresh tidy r = record {
     set = H;
@@ -195,7 +195,7 @@ module _ (P : Program) (rel : ℕ → List PathData) (A : Assignment) (h : Memor
       record {
         set = H;
         sound = sound_more P h env H (held_at more) (held_at (gets fs (Act (W.Acquire st) ∷ more))) (λ a held. or_first (has_release a more) _ (outer a) (sym (gets_release a fs)) held) s;
-        rest = subst (λ b. Passes p b (λ x. FitsPhase P rel A h outer K (gets fs (Act (W.Acquire st) ∷ more)) env x (get_path P g (Some q) ∷ [])))
+        rest = subst (λ b. PassesPart p b (λ x. FitsPhase P rel A h outer K (gets fs (Act (W.Acquire st) ∷ more)) env x (get_path P g (Some q) ∷ [])))
             (sym (final_read P g (Some q) H (slice_get P.fields g) refl tests.0))
             (const_passes _ p (subst (λ z. FitsPhase P rel A h outer K (gets fs (Act (W.Acquire st) ∷ more)) env p (z ∷ []))
             (sym (path_read g q tests.0 (front_short q.fields g fs most_fields short)))
@@ -212,27 +212,27 @@ module _ (P : Program) (rel : ℕ → List PathData) (A : Assignment) (h : Memor
 
   mutual
     stmt_opens : (st : Stmt) (more : List Item) (next : Option Next) (env : Env) (H : Held) (p : Phase) → ((later : Env) (q : Phase) → FitsPhase P rel A h outer K more later q [] → Opens P rel A h outer K next later q [])
-        → Sound P h env H (held_at more) → Fresh H st → TidyS P st → Passes p (effect P rel A st H) (λ q. (later : Env) → SlotsAgree P h st env later → FitsPhase P rel A h outer K more later q []) → Opens P rel A h outer K (open_stmt st more next) env p []
+        → Sound P h env H (held_at more) → Fresh H st → TidyS P st → PassesPart p (effect P rel A st H) (λ q. (later : Env) → SlotsAgree P h st env later → FitsPhase P rel A h outer K more later q []) → Opens P rel A h outer K (open_stmt st more next) env p []
     stmt_opens EmptyS more next env H p opens s fresh tidy r = opens env p (const_stays (After EmptyS more env) p r env (record { kept = λ y other. refl; local = tt }))
     stmt_opens (BlockS ss) more next env H p opens s fresh tidy r = items_open ss more next env p opens
         (block_fits ss more env H p s (record { at = λ q has. fresh.at q has }) tidy (passes_map (After (BlockS ss) more env) _ p (block_effect P rel A ss H) (λ q g later kept. g later (record { kept = kept; local = tt })) r))
     stmt_opens (LocalS x true ty e) more next env H p opens s fresh tidy r = expr_opens e (Act (W.Store x) ∷ more) env H [] p s tidy.1
-        (passes_map (λ q. Passes q Mover (After (LocalS x true ty e) more env)) _ p (expr_effect P rel A e H)
+        (passes_map (λ q. PassesPart q Mover (After (LocalS x true ty e) more env)) _ p (expr_effect P rel A e H)
         (λ q g. on_pushed P (λ z. (v : Value) → MayLeadTo P h env (top_path z) v → FitsPhase P rel A h outer K more (with_slot env x v) q []) e [] tidy.0
         (λ v may. mover_stays (After (LocalS x true ty e) more env) q g (with_slot env x v) (record { kept = λ y other. other_slot env x v y other; local = subst (MayLeadTo P h env (path_of P e)) (sym (same_slot env x v)) may })))
         (passes_seq _ p (expr_effect P rel A e H) Mover r))
     stmt_opens (LocalS x false ty e) more next env H p opens s fresh tidy r = expr_opens e (Act (W.Store x) ∷ more) env H [] p s tidy.1
-        (passes_map (λ q. Passes q Mover (After (LocalS x false ty e) more env)) _ p (expr_effect P rel A e H) (λ q g v may. mover_stays (After (LocalS x false ty e) more env) q g (with_slot env x v) (record { kept = λ y other. other_slot env x v y other; local = tt })) (passes_seq _ p (expr_effect P rel A e H) Mover r))
+        (passes_map (λ q. PassesPart q Mover (After (LocalS x false ty e) more env)) _ p (expr_effect P rel A e H) (λ q g v may. mover_stays (After (LocalS x false ty e) more env) q g (with_slot env x v) (record { kept = λ y other. other_slot env x v y other; local = tt })) (passes_seq _ p (expr_effect P rel A e H) Mover r))
     stmt_opens (SetVarS x e) more next env H p opens s fresh tidy r = expr_opens e (Act (W.Store x) ∷ more) env H [] p s tidy.1
-        (passes_map (λ q. Passes q Mover (After (SetVarS x e) more env)) _ p (expr_effect P rel A e H) (λ q g v may. mover_stays (After (SetVarS x e) more env) q g (with_slot env x v) (record { kept = λ y other. other_slot env x v y other; local = tt })) (passes_seq _ p (expr_effect P rel A e H) Mover r))
+        (passes_map (λ q. PassesPart q Mover (After (SetVarS x e) more env)) _ p (expr_effect P rel A e H) (λ q g v may. mover_stays (After (SetVarS x e) more env) q g (with_slot env x v) (record { kept = λ y other. other_slot env x v y other; local = tt })) (passes_seq _ p (expr_effect P rel A e H) Mover r))
     stmt_opens (SetFieldS e f g) more next env H p opens s fresh tidy r = expr_opens e (Ex g ∷ Act (W.Put f) ∷ more) env H [] p s tidy.1
-        (passes_map (λ q. Passes q (seq_of (expr_effect P rel A g H) (access_of P true f (path_of P e) H)) (After (SetFieldS e f g) more env)) _ p (expr_effect P rel A e H)
+        (passes_map (λ q. PassesPart q (seq_of (expr_effect P rel A g H) (access_of P true f (path_of P e) H)) (After (SetFieldS e f g) more env)) _ p (expr_effect P rel A e H)
         (λ q k. record {
           set = H;
           sound = s;
           rest = (
             tidy.3,
-            passes_map (λ q. Passes q (access_of P true f (path_of P e) H) (After (SetFieldS e f g) more env)) _ q (expr_effect P rel A g H)
+            passes_map (λ q. PassesPart q (access_of P true f (path_of P e) H) (After (SetFieldS e f g) more env)) _ q (expr_effect P rel A g H)
                 (λ x k2. on_pushed P (λ z. FitsPhase P rel A h outer K (Act (W.Put f) ∷ more) env x z) g (pushed P e []) tidy.2
                 (on_pushed P (λ z. FitsPhase P rel A h outer K (Act (W.Put f) ∷ more) env x (path_of P g ∷ z)) e [] tidy.0
                 (record { set = H; sound = s; rest = passes_map (After (SetFieldS e f g) more env) _ x (access_of P true f (path_of P e) H) (λ y k3. k3 env (record { kept = λ z other. refl; local = tt })) k2 })))
@@ -245,7 +245,7 @@ module _ (P : Program) (rel : ℕ → List PathData) (A : Assignment) (h : Memor
     stmt_opens (DoS e false) more next env H p opens s fresh tidy r = expr_opens e more env H [] p s tidy.1
         (passes_map (After (DoS e false) more env) _ p (expr_effect P rel A e H) (λ q g. subst (λ b. FitsPhase P rel A h outer K more env q (if b then path_of P e ∷ [] else [])) tidy.0 (g env (record { kept = λ y other. refl; local = tt }))) r)
     stmt_opens (IfS c t u) more next env H p opens s fresh tidy r = expr_opens c (Act (W.Choose t u) ∷ more) env H [] p s tidy.1
-        (passes_map (λ q. Passes q (join_of (effect P rel A t H) (effect P rel A u H)) (After (IfS c t u) more env)) _ p (expr_effect P rel A c H)
+        (passes_map (λ q. PassesPart q (join_of (effect P rel A t H) (effect P rel A u H)) (After (IfS c t u) more env)) _ p (expr_effect P rel A c H)
         (λ q g. record {
           set = H;
           sound = s;
@@ -259,7 +259,7 @@ module _ (P : Program) (rel : ℕ → List PathData) (A : Assignment) (h : Memor
         })
         (passes_seq _ p (expr_effect P rel A c H) (join_of (effect P rel A t H) (effect P rel A u H)) r))
     stmt_opens (WhileS c t) more next env H p opens s fresh tidy r = expr_opens c (Act (W.Loop c t) ∷ more) env H [] p s tidy.1
-        (passes_map (λ q. Passes q (star_of (seq_of (effect P rel A t H) (expr_effect P rel A c H))) (After (WhileS c t) more env)) _ p (expr_effect P rel A c H)
+        (passes_map (λ q. PassesPart q (star_of (seq_of (effect P rel A t H) (expr_effect P rel A c H))) (After (WhileS c t) more env)) _ p (expr_effect P rel A c H)
         (λ q g. record {
           set = H;
           sound = s;
@@ -293,11 +293,11 @@ module _ (P : Program) (rel : ℕ → List PathData) (A : Assignment) (h : Memor
     stmt_opens (ReturnS (Some e)) more next env H p opens s fresh tidy r = expr_opens e (Act W.Ret ∷ more) env H [] p s tidy.1
         (passes_map (After (ReturnS (Some e)) more env) _ p (expr_effect P rel A e H) (λ q g. fits_left P rel A h outer K falls more env q [] (g env (record { kept = λ y other. refl; local = tt }))) r)
     stmt_opens (PrintS e) more next env H p opens s fresh tidy r = expr_opens e (Act W.Print ∷ more) env H [] p s tidy.1
-        (passes_map (λ q. Passes q Atomic (After (PrintS e) more env)) _ p (expr_effect P rel A e H)
+        (passes_map (λ q. PassesPart q Atomic (After (PrintS e) more env)) _ p (expr_effect P rel A e H)
         (λ q g. passes_map (After (PrintS e) more env) _ q Atomic (λ x k. on_pushed P (λ z. FitsPhase P rel A h outer K more env x (under_path z)) e [] tidy.0 (k env (record { kept = λ y other. refl; local = tt }))) g)
         (passes_seq _ p (expr_effect P rel A e H) Atomic r))
     stmt_opens (StartS e) more next env H p opens s fresh tidy r = expr_opens e (Act W.Start ∷ more) env H [] p s tidy.1
-        (passes_map (λ q. Passes q Atomic (After (StartS e) more env)) _ p (expr_effect P rel A e H)
+        (passes_map (λ q. PassesPart q Atomic (After (StartS e) more env)) _ p (expr_effect P rel A e H)
         (λ q g. passes_map (After (StartS e) more env) _ q Atomic (λ x k. on_pushed P (λ z. FitsPhase P rel A h outer K more env x (under_path z)) e [] tidy.0 (k env (record { kept = λ y other. refl; local = tt }))) g)
         (passes_seq _ p (expr_effect P rel A e H) Atomic r))
 

@@ -9,7 +9,7 @@ use Rattle.state.specs.declared.value.StepKind.TheVariants.{Both, Right, Left, O
 use Rattle.semantics.specs.Units.{Entry, are_kept, is_of_thread, added, units, is_whole, word_of, in_order, schedule_of}
 use Rattle.semantics.specs.Words.{IsReducible, is_reducible}
 use Rattle.semantics.proofs.WordLemmas.{is_reducible_of}
-use Rattle.reduction.specs.Systems.{StepTo, System, IsThread, run_then, run_from, entry_then, entries_from, written_from, owns_then, owns_from}
+use Rattle.reduction.specs.Systems.{StepTo, System, IsThreadOfSystem, run_then, system_run_from, system_entry_then, system_entries_from, written_from, system_owns_then, owns_from}
 use Rattle.reduction.specs.Movers.{HasMovers}
 use Rattle.reduction.specs.Runs.{Run}
 use Rattle.reduction.specs.Serial.{IsBlockwise, NobodyInside, IsSerialOrder}
@@ -23,45 +23,45 @@ unless false b h e = absurd cc
 
 -- A schedule that runs is a run of its entries.
 module _ {S O : Type 0} (M : System S O) where
-  step_run : (q r : S) (place t : ℕ) (s : List ℕ) (o : Option (StepTo S)) → M.step q t ≡ o → run_then o (λ next. run_from M next s) ≡ Some r
-      → ((next : S) → run_from M next s ≡ Some r → Run M next (entries_from M next (place + 1) s) r)
-      → Run M q (entry_then M place t o (λ next. entries_from M next (place + 1) s)) r
+  step_run : (q r : S) (place t : ℕ) (s : List ℕ) (o : Option (StepTo S)) → M.step q t ≡ o → run_then o (λ next. system_run_from M next s) ≡ Some r
+      → ((next : S) → system_run_from M next s ≡ Some r → Run M next (system_entries_from M next (place + 1) s) r)
+      → Run M q (system_entry_then M place t o (λ next. system_entries_from M next (place + 1) s)) r
   step_run q r place t s None e ran later = absurd cc
   step_run q r place t s (Some x) e ran later = (x.to, record { steps = e; inside = refl }, later x.to ran)
 
-  pub entries_run : (s : List ℕ) (q r : S) (place : ℕ) → run_from M q s ≡ Some r → Run M q (entries_from M q place s) r
+  pub entries_run : (s : List ℕ) (q r : S) (place : ℕ) → system_run_from M q s ≡ Some r → Run M q (system_entries_from M q place s) r
   entries_run [] q r place ran = same_Some q r ran
   entries_run (t ∷ s) q r place ran = step_run q r place t s (M.step q t) refl ran (λ next later. entries_run s next r (place + 1) later)
 
-  pub entries_rise : (s : List ℕ) (q : S) (place : ℕ) → Rises place (entries_from M q place s)
+  pub entries_rise : (s : List ℕ) (q : S) (place : ℕ) → Rises place (system_entries_from M q place s)
   entries_rise [] q place = tt
   entries_rise (t ∷ s) q place = by (M.step q t) (λ next. entries_rise s next (place + 1))
     where
       next_place : place + 1 ≡ suc place
       next_place = omega arith
 
-      by : (o : Option (StepTo S)) → ((next : S) → Rises (place + 1) (entries_from M next (place + 1) s)) → Rises place (entry_then M place t o (λ next. entries_from M next (place + 1) s))
+      by : (o : Option (StepTo S)) → ((next : S) → Rises (place + 1) (system_entries_from M next (place + 1) s)) → Rises place (system_entry_then M place t o (λ next. system_entries_from M next (place + 1) s))
       by None later = tt
-      by (Some x) later = (omega arith, subst (λ n. Rises n (entries_from M x.to (place + 1) s)) next_place (later x.to))
+      by (Some x) later = (omega arith, subst (λ n. Rises n (system_entries_from M x.to (place + 1) s)) next_place (later x.to))
 
   -- the entries of a schedule that runs are all of it
-  pub entries_all : (s : List ℕ) (q : S) (place : ℕ) → IsSome (run_from M q s) → map (λ e. e.thread) (entries_from M q place s) ≡ s
+  pub entries_all : (s : List ℕ) (q : S) (place : ℕ) → IsSome (system_run_from M q s) → map (λ e. e.thread) (system_entries_from M q place s) ≡ s
   entries_all [] q place runs = refl
   entries_all (t ∷ s) q place runs = by (M.step q t) runs (λ next ran. entries_all s next (place + 1) ran)
     where
-      by : (o : Option (StepTo S)) → IsSome (run_then o (λ next. run_from M next s)) → ((next : S) → IsSome (run_from M next s) → map (λ e. e.thread) (entries_from M next (place + 1) s) ≡ s)
-          → map (λ e. e.thread) (entry_then M place t o (λ next. entries_from M next (place + 1) s)) ≡ t ∷ s
+      by : (o : Option (StepTo S)) → IsSome (run_then o (λ next. system_run_from M next s)) → ((next : S) → IsSome (system_run_from M next s) → map (λ e. e.thread) (system_entries_from M next (place + 1) s) ≡ s)
+          → map (λ e. e.thread) (system_entry_then M place t o (λ next. system_entries_from M next (place + 1) s)) ≡ t ∷ s
       by None ran later = absurd cc
       by (Some x) ran later = ap (λ r. t ∷ r) (later x.to ran)
 
   -- and a run of entries is one of a schedule
-  pub run_entries : (es : List Entry) (q r : S) → Run M q es r → run_from M q (map (λ e. e.thread) es) ≡ Some r
+  pub run_entries : (es : List Entry) (q r : S) → Run M q es r → system_run_from M q (map (λ e. e.thread) es) ≡ Some r
   run_entries [] q r ran = ap Some ran
-  run_entries (e ∷ es) q r ran = ap (λ o. run_then o (λ next. run_from M next (map (λ x. x.thread) es))) ran.1.steps ∙ run_entries es ran.0 r ran.2
+  run_entries (e ∷ es) q r ran = ap (λ o. run_then o (λ next. system_run_from M next (map (λ x. x.thread) es))) ran.1.steps ∙ run_entries es ran.0 r ran.2
 
   -- entries that are kept interrupt nobody
   pub kept_at : (es : List Entry) (q r : S) → Run M q es r → are_kept es ≡ true → (k t u : ℕ) (z : S) → slice_get (map (λ e. e.thread) es) k ≡ Some t → slice_get (map (λ e. e.thread) es) (suc k) ≡ Some u
-      → run_from M q (take (suc k) (map (λ e. e.thread) es)) ≡ Some z → M.inside (M.own z t) ≡ true → u ≡ t
+      → system_run_from M q (take (suc k) (map (λ e. e.thread) es)) ≡ Some z → M.inside (M.own z t) ≡ true → u ≡ t
   kept_at [] q r ran kept k t u z here next to is = absurd cc
   kept_at (e ∷ []) q r ran kept k t u z here next to is = absurd cc
   kept_at (e ∷ f ∷ es) q r ran kept zero t u z here next to is =
@@ -72,10 +72,10 @@ module _ {S O : Type 0} (M : System S O) where
       sym theirs ∙ eqb-true f.thread e.thread (unless e.inside (f.thread == e.thread) ((and_parts (not e.inside || (f.thread == e.thread)) (are_kept (f ∷ es)) kept).0) stands) ∙ mine
   kept_at (e ∷ f ∷ es) q r ran kept (suc k) t u z here next to is =
       kept_at (f ∷ es) ran.0 r ran.2 ((and_parts (not e.inside || (f.thread == e.thread)) (are_kept (f ∷ es)) kept).1) k t u z here next
-      (sym (ap (λ o. run_then o (λ n. run_from M n (take (suc k) (map (λ x. x.thread) (f ∷ es))))) ran.1.steps) ∙ to) is
+      (sym (ap (λ o. run_then o (λ n. system_run_from M n (take (suc k) (map (λ x. x.thread) (f ∷ es))))) ran.1.steps) ∙ to) is
 
   -- a thread has as many own states in a schedule that runs as it has entries
-  pub count_owns : (t : ℕ) (s : List ℕ) (q : S) → IsSome (run_from M q s) → length (owns_from M q t s) ≡ count_by (λ u. u == t) s
+  pub count_owns : (t : ℕ) (s : List ℕ) (q : S) → IsSome (system_run_from M q s) → length (owns_from M q t s) ≡ count_by (λ u. u == t) s
   count_owns t [] q runs = refl
   count_owns t (u ∷ s) q runs = by (M.step q u) runs (λ next ran. count_owns t s next ran) ∙ sym (sum_by-cons (λ x. cond (x == t) 1 0) u s)
     where
@@ -83,8 +83,8 @@ module _ {S O : Type 0} (M : System S O) where
       one true x xs = omega arith
       one false x xs = omega arith
 
-      by : (o : Option (StepTo S)) → IsSome (run_then o (λ next. run_from M next s)) → ((next : S) → IsSome (run_from M next s) → length (owns_from M next t s) ≡ count_by (λ x. x == t) s)
-          → length (owns_then M t u o (λ next. owns_from M next t s)) ≡ cond (u == t) 1 0 + count_by (λ x. x == t) s
+      by : (o : Option (StepTo S)) → IsSome (run_then o (λ next. system_run_from M next s)) → ((next : S) → IsSome (system_run_from M next s) → length (owns_from M next t s) ≡ count_by (λ x. x == t) s)
+          → length (system_owns_then M t u o (λ next. owns_from M next t s)) ≡ cond (u == t) 1 0 + count_by (λ x. x == t) s
       by None ran later = absurd cc
       by (Some x) ran later = one (u == t) (M.own x.to u) (owns_from M x.to t s) ∙ ap (λ n. cond (u == t) 1 0 + n) (later x.to ran)
 
@@ -141,7 +141,7 @@ none_units t (e ∷ es) n rises h = by e.inside h (λ g. none_units t es (suc e.
 
 module _ {S O : Type 0} {M : System S O} {IsSound : S → Type 0} (laws : HasMovers M IsSound) where
   -- a thread without entries keeps its own
-  thread_stays : (t : ℕ) (es : List Entry) (q r : S) → IsThread M q t → Each (λ x. x.thread ≡ t → ⊥) es → Run M q es r → M.own r t ≡ M.own q t
+  thread_stays : (t : ℕ) (es : List Entry) (q r : S) → IsThreadOfSystem M q t → Each (λ x. x.thread ≡ t → ⊥) es → Run M q es r → M.own r t ≡ M.own q t
   thread_stays t [] q r there other ran = ap (λ z. M.own z t) (sym ran)
   thread_stays t (e ∷ es) q r there other ran =
       thread_stays t es ran.0 r (fits_grow laws q ran.0 e ran.1 t there) other.1 ran.2
@@ -162,7 +162,7 @@ module _ {S O : Type 0} {M : System S O} {IsSound : S → Type 0} (laws : HasMov
   whole_units [] n rises q r ran closed = tt
   whole_units (e ∷ es) n rises q r ran closed = by e.inside refl (whole_units es (suc e.place) rises.1 ran.0 r ran.2 closed)
     where
-      there : IsThread M ran.0 e.thread
+      there : IsThreadOfSystem M ran.0 e.thread
       there = fits_grow laws q ran.0 e ran.1 e.thread (fits_there laws q ran.0 e ran.1)
 
       goes_on : e.inside ≡ true → (h : Bool) → has e.thread (units es) ≡ h → has e.thread (units es) ≡ true
@@ -207,15 +207,15 @@ next_place place = omega arith
 
 module _ {S O : Type 0} {M : System S O} {IsSound : S → Type 0} (laws : HasMovers M IsSound) where
   -- the written order of a schedule whose units are whole and have reducible words
-  written_whole : (s : List ℕ) (q r : S) → IsSound q → run_from M q s ≡ Some r → Each Whole (units (entries_from M q 0 s)) → Each HasWord (units (entries_from M q 0 s)) → IsSerialOrder M q s (written_from M q s) r
+  written_whole : (s : List ℕ) (q r : S) → IsSound q → system_run_from M q s ≡ Some r → Each Whole (units (system_entries_from M q 0 s)) → Each HasWord (units (system_entries_from M q 0 s)) → IsSerialOrder M q s (written_from M q s) r
   written_whole s q r sound ran whole each_word =
-      let es = entries_from M q 0 s in
+      let es = system_entries_from M q 0 s in
       let start = entries_run M s q r 0 ran in
       let rises = entries_rise M s q 0 in
       let becomes = sorted laws es 0 rises (none_bare es each_word) each_word q r sound start in
       let ys = flat (in_order (units es)) in
       let same : written_from M q s ≡ map (λ e. e.thread) ys = schedule_is (in_order (units es)) in
-      let runs : run_from M q (written_from M q s) ≡ Some r = ap (run_from M q) same ∙ run_entries M ys q r becomes.run in
+      let runs : system_run_from M q (written_from M q s) ≡ Some r = ap (system_run_from M q) same ∙ run_entries M ys q r becomes.run in
       let all = entries_all M s q 0 (ap is_some ran) in
       let owns : (t : ℕ) → owns_from M q t s ≡ owns_from M q t (written_from M q s) = λ t. ap (owns_from M q t) (sym all) ∙ becomes.owns t ∙ ap (owns_from M q t) (sym same) in
       let kept : are_kept ys ≡ true = flat_kept 0 (in_order (units es)) (each_in_order (IsFine 0) (units es) (fine_units es 0 rises)) (each_in_order Whole (units es) whole) in
@@ -225,15 +225,15 @@ module _ {S O : Type 0} {M : System S O} {IsSound : S → Type 0} (laws : HasMov
         uninterrupted = subst (IsBlockwise M q) (sym same) (record {
           runs = ap is_some (run_entries M ys q r becomes.run);
           kept = λ place t u z here next to is. kept_at M ys q r becomes.run kept place t u z here
-              (ap (slice_get (map (λ e. e.thread) ys)) (next_place place) ∙ next) (ap (λ n. run_from M q (take n (map (λ e. e.thread) ys))) (next_place place) ∙ to) is;
+              (ap (slice_get (map (λ e. e.thread) ys)) (next_place place) ∙ next) (ap (λ n. system_run_from M q (take n (map (λ e. e.thread) ys))) (next_place place) ∙ to) is;
         });
         owns = owns;
       }
 
   -- the written order of a schedule that ends with nobody inside, and whose units have reducible words
-  pub written : (s : List ℕ) (q r : S) → IsSound q → run_from M q s ≡ Some r → NobodyInside M r
-      → ((n : ℕ) (u : List Entry) → slice_get (units (entries_from M q 0 s)) n ≡ Some u → IsReducible (word_of u)) → IsSerialOrder M q s (written_from M q s) r
+  pub written : (s : List ℕ) (q r : S) → IsSound q → system_run_from M q s ≡ Some r → NobodyInside M r
+      → ((n : ℕ) (u : List Entry) → slice_get (units (system_entries_from M q 0 s)) n ≡ Some u → IsReducible (word_of u)) → IsSerialOrder M q s (written_from M q s) r
   written s q r sound ran closed words =
       written_whole s q r sound ran
-      (whole_units laws (entries_from M q 0 s) 0 (entries_rise M s q 0) q r (entries_run M s q r 0 ran) closed)
-      (each_from HasWord (units (entries_from M q 0 s)) (λ n u at. is_reducible_of (word_of u) (words n u at)))
+      (whole_units laws (system_entries_from M q 0 s) 0 (entries_rise M s q 0) q r (entries_run M s q r 0 ran) closed)
+      (each_from HasWord (units (system_entries_from M q 0 s)) (λ n u at. is_reducible_of (word_of u) (words n u at)))

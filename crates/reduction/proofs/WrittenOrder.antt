@@ -53,7 +53,7 @@ pub written : (P : Program) → IsTyped P → (s : List ℕ) (q : State) → run
     → ((n : ℕ) (u : List Entry) → slice_get (units (entries P s)) n ≡ Some u → IsReducible (word_of u)) → IsSerial P s (written_order P s) q
 written P typed s q ran closed words =
     let M = machine P in
-    let same : of.entries_from M (initial P) 0 s ≡ entries P s = entries_same P s (initial P) 0 in
+    let same : of.system_entries_from M (initial P) 0 s ≡ entries P s = entries_same P s (initial P) 0 in
     let order : of.written_from M (initial P) s ≡ written_order P s = ap (λ es. schedule_of (in_order (units es))) same in
     let serial = any.written (machine_moves P typed) s (initial P) q (sound_initial P) (run_same P s (initial P) ∙ ran) (λ t there. nobody_inside P q closed t)
     (λ n u at. words n u (ap (λ es. slice_get (units es) n) (sym same) ∙ at)) in

@@ -16,7 +16,7 @@ use Rattle.state.specs.Values.{address_eq}
 use Rattle.state.specs.Work as W
 use Rattle.state.specs.Work.{Action, Item, Ex, St, Act, Next}
 use Rattle.semantics.specs.Step.{has_result}
-use Rattle.reduction.specs.Phases.{Phase, Passes, freed}
+use Rattle.reduction.specs.Phases.{Phase, PassesPart, freed}
 use Rattle.reduction.specs.Leads.{Env, Memory, Sound, Paths, LeadsTo, MayLeadTo, with_slot, top_path, under_path, taken_paths, dropped_paths}
 
 -- What a typed body is like, as far as it is needed.
@@ -27,9 +27,9 @@ arity_of None = 0
 arity_of (Some m) = length m.params
 
 -- how many final fields a class has, which is how many arguments `new` takes; 0 where there is none
-abbrev pub finals_of : Option Class → ℕ
-finals_of None = 0
-finals_of (Some c) = length c.finals
+abbrev pub final_field_count : Option Class → ℕ
+final_field_count None = 0
+final_field_count (Some c) = length c.finals
 
 -- how many arguments there are
 abbrev pub argument_count : Exprs → ℕ
@@ -53,7 +53,7 @@ module _ (P : Program) where
     TidyE (OrE a b) = (valued a ≡ true) × TidyE a × (valued b ≡ true) × TidyE b × (path_of P b ≡ None)
     TidyE (GetE e f) = (valued e ≡ true) × TidyE e
     TidyE (CallE e m args) = (valued e ≡ true) × TidyE e × TidyEach args × (arity_of (slice_get P.methods m) ≡ argument_count args)
-    TidyE (NewE c args) = TidyEach args × (finals_of (slice_get P.classes c) ≡ argument_count args)
+    TidyE (NewE c args) = TidyEach args × (final_field_count (slice_get P.classes c) ≡ argument_count args)
     TidyE _ = Unit {0}
 
     -- the same of arguments, each of which leaves an operand
@@ -171,29 +171,29 @@ module _ (P : Program) (rel : ℕ → List PathData) (A : Assignment) (h : Memor
   FitsAct W.Drop more G env phase os = G env phase (under_path os)
   FitsAct (W.Unary op) more G env phase os = G env phase (None ∷ under_path os)
   FitsAct (W.Binary op) more G env phase os = G env phase (None ∷ under_path (under_path os))
-  FitsAct (W.AndThen e) more G env phase os = At P h outer env more (λ H. (valued P e ≡ true) × TidyE P e × (path_of P e ≡ None) × Passes phase (expr_effect P rel A e H) (λ later. G env later (None ∷ under_path os)))
-  FitsAct (W.OrElse e) more G env phase os = At P h outer env more (λ H. (valued P e ≡ true) × TidyE P e × (path_of P e ≡ None) × Passes phase (expr_effect P rel A e H) (λ later. G env later (None ∷ under_path os)))
+  FitsAct (W.AndThen e) more G env phase os = At P h outer env more (λ H. (valued P e ≡ true) × TidyE P e × (path_of P e ≡ None) × PassesPart phase (expr_effect P rel A e H) (λ later. G env later (None ∷ under_path os)))
+  FitsAct (W.OrElse e) more G env phase os = At P h outer env more (λ H. (valued P e ≡ true) × TidyE P e × (path_of P e ≡ None) × PassesPart phase (expr_effect P rel A e H) (λ later. G env later (None ∷ under_path os)))
   FitsAct (W.Choose s t) more G env phase os = At P h outer env more (λ H. Fresh H s × Fresh H t × TidyS P s × TidyS P t
-      × Passes phase (join_of (effect P rel A s H) (effect P rel A t H)) (λ next. (later : Env) → ((y : ℕ) → (stores s y || stores t y) ≡ false → later y ≡ env y) → G later next []))
+      × PassesPart phase (join_of (effect P rel A s H) (effect P rel A t H)) (λ next. (later : Env) → ((y : ℕ) → (stores s y || stores t y) ≡ false → later y ≡ env y) → G later next []))
   FitsAct (W.Loop c s) more G env phase os = At P h outer env more (λ H. Fresh H s × (valued P c ≡ true) × TidyE P c × TidyS P s
-      × Passes phase (star_of (seq_of (effect P rel A s H) (expr_effect P rel A c H))) (λ next. (later : Env) → ((y : ℕ) → stores s y ≡ false → later y ≡ env y) → G later next []))
-  FitsAct (W.Get f) more G env phase os = At P h outer env more (λ H. Passes phase (access_of P false f (top_path os) H) (λ next. G env next (get_path P f (top_path os) ∷ under_path os)))
-  FitsAct (W.Put f) more G env phase os = At P h outer env more (λ H. Passes phase (access_of P true f (top_path (under_path os)) H) (λ next. G env next (under_path (under_path os))))
-  FitsAct (W.New c) more G env phase os = G env phase (None ∷ dropped_paths (finals_of (slice_get P.classes c)) os)
+      × PassesPart phase (star_of (seq_of (effect P rel A s H) (expr_effect P rel A c H))) (λ next. (later : Env) → ((y : ℕ) → stores s y ≡ false → later y ≡ env y) → G later next []))
+  FitsAct (W.Get f) more G env phase os = At P h outer env more (λ H. PassesPart phase (access_of P false f (top_path os) H) (λ next. G env next (get_path P f (top_path os) ∷ under_path os)))
+  FitsAct (W.Put f) more G env phase os = At P h outer env more (λ H. PassesPart phase (access_of P true f (top_path (under_path os)) H) (λ next. G env next (under_path (under_path os))))
+  FitsAct (W.New c) more G env phase os = G env phase (None ∷ dropped_paths (final_field_count (slice_get P.classes c)) os)
   FitsAct (W.Call m) more G env phase os = At P h outer env more (λ H.
-      Passes phase (call_of P rel A m (top_path (dropped_paths (arity_of (slice_get P.methods m)) os)) (taken_paths (arity_of (slice_get P.methods m)) [] os) H)
+      PassesPart phase (call_of P rel A m (top_path (dropped_paths (arity_of (slice_get P.methods m)) os)) (taken_paths (arity_of (slice_get P.methods m)) [] os) H)
       (λ next. G env next (awaited P m ++ under_path (dropped_paths (arity_of (slice_get P.methods m)) os))))
   FitsAct (W.Acquire s) more G env phase os = At P h outer env more (λ H. (p : PathData) × (top_path os ≡ Some p) × Fresh H s × (stores s p.root ≡ false) × TidyS P s
-      × Passes phase (sync_effect (H p) (effect P rel A s H) (effect P rel A s (with_path p H))) (λ next. (later : Env) → ((y : ℕ) → stores s y ≡ false → later y ≡ env y) → G later next []))
+      × PassesPart phase (sync_effect (H p) (effect P rel A s H) (effect P rel A s (with_path p H))) (λ next. (later : Env) → ((y : ℕ) → stores s y ≡ false → later y ≡ env y) → G later next []))
   FitsAct (W.Release a) more G env phase os = G env (freed (has_release a more || outer a) phase) []
   FitsAct W.Ret more G env phase os = K (return_phase outer more phase)
-  FitsAct W.Print more G env phase os = Passes phase Atomic (λ next. G env next (under_path os))
-  FitsAct W.Start more G env phase os = Passes phase Atomic (λ next. G env next (under_path os))
+  FitsAct W.Print more G env phase os = PassesPart phase Atomic (λ next. G env next (under_path os))
+  FitsAct W.Start more G env phase os = PassesPart phase Atomic (λ next. G env next (under_path os))
 
   -- the same of an item; an expression and a statement have their effect at some set
   abbrev pub FitsItem : Item → List Item → (Env → Phase → Paths → Type 0) → Env → Phase → Paths → Type 0
-  FitsItem (Ex e) more G env phase os = At P h outer env more (λ H. TidyE P e × Passes phase (expr_effect P rel A e H) (λ next. G env next (pushed P e os)))
-  FitsItem (St s) more G env phase os = At P h outer env more (λ H. Fresh H s × TidyS P s × Passes phase (effect P rel A s H) (λ next. (later : Env) → SlotsAgree P h s env later → G later next []))
+  FitsItem (Ex e) more G env phase os = At P h outer env more (λ H. TidyE P e × PassesPart phase (expr_effect P rel A e H) (λ next. G env next (pushed P e os)))
+  FitsItem (St s) more G env phase os = At P h outer env more (λ H. Fresh H s × TidyS P s × PassesPart phase (effect P rel A s H) (λ next. (later : Env) → SlotsAgree P h s env later → G later next []))
   FitsItem (Act a) more G env phase os = FitsAct a more G env phase os
 
   -- a list fits; at its end the frames further out do

@@ -76,7 +76,7 @@ stepped Left phase = freed false phase
 stepped Other phase = freed false phase
 
 -- the phase admits a part of this effect, and K holds of the phase after it
-pub record Passes (phase : Phase) (effect : Basic) (K : Phase → Type 0) : Type 0 where
+pub record PassesPart (phase : Phase) (effect : Basic) (K : Phase → Type 0) : Type 0 where
   pub next : Phase
   pub passes : phase_after phase effect ≡ Some next
   pub rest : K next

@@ -24,8 +24,8 @@ abbrev pub Steps : {S O : Type 0} → System S O → S → ℕ → StepKind → 
 Steps M q t k r = M.step q t ≡ Some (record { kind = k; to = r })
 
 -- there is a thread of this number
-abbrev pub IsThread : {S O : Type 0} → System S O → S → ℕ → Type 0
-IsThread M q t = M.there q t ≡ true
+abbrev pub IsThreadOfSystem : {S O : Type 0} → System S O → S → ℕ → Type 0
+IsThreadOfSystem M q t = M.there q t ≡ true
 
 -- what comes of the state after a step, where there is one
 abbrev pub run_then : {S : Type 0} → Option (StepTo S) → (S → Option S) → Option S
@@ -33,30 +33,30 @@ run_then None later = None
 run_then (Some x) later = later x.to
 
 -- the state after the threads of a schedule stepped one after the other; none where one of them can't
-abbrev pub run_from : {S O : Type 0} → System S O → S → List ℕ → Option S
-run_from M q [] = Some q
-run_from M q (t ∷ s) = run_then (M.step q t) (λ next. run_from M next s)
+abbrev pub system_run_from : {S O : Type 0} → System S O → S → List ℕ → Option S
+system_run_from M q [] = Some q
+system_run_from M q (t ∷ s) = run_then (M.step q t) (λ next. system_run_from M next s)
 
 -- the entry of a step, before the entries from the state after it
-abbrev pub entry_then : {S O : Type 0} → System S O → (place t : ℕ) → Option (StepTo S) → (S → List Entry) → List Entry
-entry_then M place t None later = []
-entry_then M place t (Some x) later = record { place = place; thread = t; kind = x.kind; inside = M.inside (M.own x.to t) } ∷ later x.to
+abbrev pub system_entry_then : {S O : Type 0} → System S O → (place t : ℕ) → Option (StepTo S) → (S → List Entry) → List Entry
+system_entry_then M place t None later = []
+system_entry_then M place t (Some x) later = record { place = place; thread = t; kind = x.kind; inside = M.inside (M.own x.to t) } ∷ later x.to
 
 -- the entries of a schedule from a state, up to the first that can't step; the first has this place
-abbrev pub entries_from : {S O : Type 0} → System S O → S → ℕ → List ℕ → List Entry
-entries_from M q place [] = []
-entries_from M q place (t ∷ s) = entry_then M place t (M.step q t) (λ next. entries_from M next (place + 1) s)
+abbrev pub system_entries_from : {S O : Type 0} → System S O → S → ℕ → List ℕ → List Entry
+system_entries_from M q place [] = []
+system_entries_from M q place (t ∷ s) = system_entry_then M place t (M.step q t) (λ next. system_entries_from M next (place + 1) s)
 
 -- the written order of a schedule from a state: its units in ascending order of their commit places
 abbrev pub written_from : {S O : Type 0} → System S O → S → List ℕ → List ℕ
-written_from M q s = schedule_of (in_order (units (entries_from M q 0 s)))
+written_from M q s = schedule_of (in_order (units (system_entries_from M q 0 s)))
 
 -- a thread's own after an entry of thread u, where that is its own, before that after later entries
-abbrev pub owns_then : {S O : Type 0} → System S O → (t u : ℕ) → Option (StepTo S) → (S → List O) → List O
-owns_then M t u None later = []
-owns_then M t u (Some x) later = if u == t then M.own x.to u ∷ later x.to else later x.to
+abbrev pub system_owns_then : {S O : Type 0} → System S O → (t u : ℕ) → Option (StepTo S) → (S → List O) → List O
+system_owns_then M t u None later = []
+system_owns_then M t u (Some x) later = if u == t then M.own x.to u ∷ later x.to else later x.to
 
 -- a thread's own after each of its entries in a schedule
 abbrev pub owns_from : {S O : Type 0} → System S O → S → ℕ → List ℕ → List O
 owns_from M q t [] = []
-owns_from M q t (u ∷ s) = owns_then M t u (M.step q u) (λ next. owns_from M next t s)
+owns_from M q t (u ∷ s) = system_owns_then M t u (M.step q u) (λ next. owns_from M next t s)

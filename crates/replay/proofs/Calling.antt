@@ -98,7 +98,7 @@ module _ (P : Program) (t m0 : ℕ) (base : List Frame) (Goal : Local → Type 0
         returns (Returns v) inner_slots q k = λ w2 more e. returns_with q (ended_value (Returns v)) more inner_slots (returned_ops v) w2 e (top_returned v) k
 
       enter_leads : (r : ℕ) (method : Method) (a : Address) → slice_get P.methods r ≡ Some method → has_result (slice_get P.methods r) ≡ has_result (slice_get P.methods m2)
-          → (b : Bool) → nat_lt d most_depth ≡ b → After S0 D0 Kept (E.inner P t (Some low) d low b method.body (new_slots method (value.Ref a) vs) p) → Entered r method a vs (on ∷ ops)
+          → (b : Bool) → nat_lt d most_depth ≡ b → After S0 D0 Kept (E.body_unless_deep P t (Some low) d low b method.body (new_slots method (value.Ref a) vs) p) → Entered r method a vs (on ∷ ops)
       enter_leads r method a is same false e k = there (k _ (suc d) (many d (ltb-false d most_depth e)) (tower_in r (on ∷ ops) (new_frame r method (value.Ref a) vs) refl))
       enter_leads r method a is same true e k =
           let few2 = fewer d (ltb-true d most_depth e) in
@@ -120,23 +120,23 @@ module _ (P : Program) (t m0 : ℕ) (base : List Frame) (Goal : Local → Type 0
             (subst (Entered r method a vs) (sym (dropped_pushed vs (length called.params) (on ∷ ops) count)) k)
 
         some_leads : (r : ℕ) (a : Address) (o : Option Method) → slice_get P.methods r ≡ o → target_at P m2 (object_class (M.get p.heap a)) ≡ Some r
-            → After S0 D0 Kept (E.enter P t (Some low) d o a vs p) → Leads P t m0 base Goal n p (S.enter_some P (seen_by t p) t f below rest (length called.params) r o a)
+            → After S0 D0 Kept (E.enter_method P t (Some low) d o a vs p) → Leads P t m0 base Goal n p (S.enter_some P (seen_by t p) t f below rest (length called.params) r o a)
         some_leads r a None is target k = faulted P t m0 base Goal m below d few tower n slots (pushed vs (on ∷ ops)) w p _
         some_leads r a (Some method) is target k =
             room_leads r method a (nat_lt (length (f ∷ below)) most_frames)
             (enter_leads r method a is (same_result neat m2 r (object_class (M.get p.heap a)) called method stands is target) (nat_lt d most_depth) refl k)
 
         dispatch_leads : (a : Address) (o : Option ℕ) → target_at P m2 (object_class (M.get p.heap a)) ≡ o
-            → After S0 D0 Kept (E.dispatch P t (Some low) d o a vs p) → Leads P t m0 base Goal n p (S.dispatch P (seen_by t p) t f below rest (length called.params) o a)
+            → After S0 D0 Kept (E.dispatch_call P t (Some low) d o a vs p) → Leads P t m0 base Goal n p (S.dispatch P (seen_by t p) t f below rest (length called.params) o a)
         dispatch_leads a None is k = faulted P t m0 base Goal m below d few tower n slots (pushed vs (on ∷ ops)) w p _
         dispatch_leads a (Some r) is k = some_leads r a (slice_get P.methods r) refl is k
 
-        call_on_leads : (o : Option Address) → After S0 D0 Kept (E.call_on P t (Some low) d m2 o vs p)
+        call_on_leads : (o : Option Address) → After S0 D0 Kept (E.call_method_on P t (Some low) d m2 o vs p)
             → Leads P t m0 base Goal n p (S.call_on P (seen_by t p) t f below rest (length called.params) m2 o)
         call_on_leads None k = faulted P t m0 base Goal m below d few tower n slots (pushed vs (on ∷ ops)) w p _
         call_on_leads (Some a) k = dispatch_leads a _ refl k
 
-      call_leads : (o : Option Method) → slice_get P.methods m2 ≡ o → arity_of o ≡ length vs → After S0 D0 Kept (E.call P t (Some low) d m2 o (address_of on) vs p)
+      call_leads : (o : Option Method) → slice_get P.methods m2 ≡ o → arity_of o ≡ length vs → After S0 D0 Kept (E.call_method P t (Some low) d m2 o (address_of on) vs p)
           → Leads P t m0 base Goal n p (S.call P (seen_by t p) t (frame m slots (pushed vs (on ∷ ops)) w) below rest m2 o)
       call_leads None is count k = faulted P t m0 base Goal m below d few tower n slots (pushed vs (on ∷ ops)) w p _
       call_leads (Some called) is count k =
@@ -147,7 +147,7 @@ module _ (P : Program) (t m0 : ℕ) (base : List Frame) (Goal : Local → Type 0
     pub call_comes : (n : ℕ) (lower : Option Lower) → FuelOk n lower → (slots ops vs : List Value) (on : Value) (w rest : List Item) (p : Plain) (m2 : ℕ)
         → arity_of (slice_get P.methods m2) ≡ length vs → unfolded w ≡ Some (W.Call m2, rest)
         → After (ShortOk P t m0 base Goal) (DeepOk P t m0 base Goal) (Push P t m0 base Goal n m below slots ops rest (has_result (slice_get P.methods m2)))
-        (E.call P t lower d m2 (slice_get P.methods m2) (address_of on) vs p)
+        (E.call_method P t lower d m2 (slice_get P.methods m2) (address_of on) vs p)
         → Comes P t m0 base Goal n (at m below slots (pushed vs (on ∷ ops)) w p)
     call_comes zero lower ok slots ops vs on w rest p m2 count e k = here_still P t m0 base Goal m below d few tower slots (pushed vs (on ∷ ops)) w p
     call_comes (suc n) None ok slots ops vs on w rest p m2 count e k = absurd ok

@@ -12,7 +12,7 @@ use Rattle.semantics.specs.Step.{target_at, object_class}
 use Rattle.core_program.specs.Dispatch.{target_of}
 use Rattle.replay.specs.Plain.{Plain}
 use Rattle.replay.specs.Answers.{Answer, Gives, Blocked, Short, Deep, then_do, Ended, ended_value, completed_normally, in_turn}
-use Rattle.replay.specs.Evaluation.{Lower, lower_of, stmt, dispatch, inner, evaluate, take_lock, take_held, locked}
+use Rattle.replay.specs.Evaluation.{Lower, lower_of, stmt, dispatch_call, body_unless_deep, evaluate, take_lock, take_held_lock, locked}
 use Rattle.replay.specs.Examples.{calls_main, calls_itself}
 
 abbrev own_slots : List Value
@@ -23,15 +23,15 @@ abbrev body_of_call : Answer Value → Answer Ended
 body_of_call a = in_turn (then_do a (λ _ r. completed_normally own_slots r)) (λ after r. completed_normally after r)
 
 module _ (q : Plain) (o : Object) (is : M.get q.heap main_address ≡ Some o) (class : o.class ≡ 0) where
-  body_is : (lower : Option Lower) (d : ℕ) → stmt calls_itself 0 lower d calls_main own_slots q ≡ body_of_call (dispatch calls_itself 0 lower d (Some 0) main_address [] q)
-  body_is lower d = ap (λ x. body_of_call (dispatch calls_itself 0 lower d (target_at calls_itself 0 (object_class x)) main_address [] q)) is
-      ∙ ap (λ c. body_of_call (dispatch calls_itself 0 lower d (target_of calls_itself c 0) main_address [] q)) class
+  body_is : (lower : Option Lower) (d : ℕ) → stmt calls_itself 0 lower d calls_main own_slots q ≡ body_of_call (dispatch_call calls_itself 0 lower d (Some 0) main_address [] q)
+  body_is lower d = ap (λ x. body_of_call (dispatch_call calls_itself 0 lower d (target_at calls_itself 0 (object_class x)) main_address [] q)) is
+      ∙ ap (λ c. body_of_call (dispatch_call calls_itself 0 lower d (target_of calls_itself c 0) main_address [] q)) class
 
   -- one call further
   inner_is : (n d : ℕ) (b : Bool) → nat_lt d 100 ≡ b
-      → stmt calls_itself 0 (lower_of calls_itself 0 (suc n)) d calls_main own_slots q ≡ body_of_call (inner calls_itself 0 (lower_of calls_itself 0 (suc n)) d (λ d s slots q. stmt calls_itself 0 (lower_of calls_itself 0 n) d s slots q) b calls_main own_slots q)
+      → stmt calls_itself 0 (lower_of calls_itself 0 (suc n)) d calls_main own_slots q ≡ body_of_call (body_unless_deep calls_itself 0 (lower_of calls_itself 0 (suc n)) d (λ d s slots q. stmt calls_itself 0 (lower_of calls_itself 0 n) d s slots q) b calls_main own_slots q)
   inner_is n d b e = body_is (lower_of calls_itself 0 (suc n)) d
-      ∙ ap (λ b. body_of_call (inner calls_itself 0 (lower_of calls_itself 0 (suc n)) d (λ d s slots q. stmt calls_itself 0 (lower_of calls_itself 0 n) d s slots q) b calls_main own_slots q)) e
+      ∙ ap (λ b. body_of_call (body_unless_deep calls_itself 0 (lower_of calls_itself 0 (suc n)) d (λ d s slots q. stmt calls_itself 0 (lower_of calls_itself 0 n) d s slots q) b calls_main own_slots q)) e
 
   below : (d k : ℕ) → d + suc k ≤ 100 → nat_lt d 100 ≡ true
   below d k e = lt-ltb d 100 (omega (arith, e))
@@ -60,7 +60,7 @@ module _ (q : Plain) (o : Object) (is : M.get q.heap main_address ≡ Some o) (c
 -- the outer of the two locks is another thread's
 pub is_blocked : (q : Plain) (hold : Hold) → M.get q.locks main_address ≡ Some hold → hold.holder ≡ 1 → evaluate nested q 0 main_address 0 [] 1 ≡ Blocked main_address 1
 is_blocked q hold held other =
-    ap after (ap (λ x. take_lock 0 main_address x q) held ∙ ap (λ h. take_held main_address hold (h == 0) q) other) ∙ ap (Blocked main_address) other
+    ap after (ap (λ x. take_lock 0 main_address x q) held ∙ ap (λ h. take_held_lock main_address hold (h == 0) q) other) ∙ ap (Blocked main_address) other
   where
     after : Answer (Unit {0}) → Answer (Option Value)
     after a = then_do (in_turn (then_do a (λ _ r. locked 0 main_address (stmt nested 0 (lower_of nested 0 0) 1 (block_of (synchronized_this put_seven)) own_slots r))) (λ after r. completed_normally after r))

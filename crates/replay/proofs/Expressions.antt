@@ -106,10 +106,10 @@ module _ (P : Program) (t m0 : ℕ) (base : List Frame) (Goal : Local → Type 0
             (λ v q h w2 is2. go (v ∷ ops) w2 rest (W.Get f) q is2 (get_leads P t m0 base Goal m below d few tower n slots w2 rest q f v ops (address_of v) h)) k)
         sim (CallE e m2 args) (g, inner, each, count) ops rest w p is k = value_of e g (sim e inner) ops (exprs_items args (Act (W.Call m2) ∷ rest)) w p is
             (chain S0 D0 (Next ops rest (has_result (slice_get P.methods m2))) (Next ops (exprs_items args (Act (W.Call m2) ∷ rest)) true) (E.expr P t lower d slots e p)
-            (λ on r. then_do (E.exprs P t lower d slots args r) (λ vs s. E.call P t lower d m2 (slice_get P.methods m2) (address_of on) vs s))
+            (λ on r. then_do (E.exprs P t lower d slots args r) (λ vs s. E.call_method P t lower d m2 (slice_get P.methods m2) (address_of on) vs s))
             (λ on q h w2 is2. sims args each (on ∷ ops) (Act (W.Call m2) ∷ rest) w2 q is2
             (chain S0 D0 (Next ops rest (has_result (slice_get P.methods m2))) (NextEach (argument_count args) (on ∷ ops) (Act (W.Call m2) ∷ rest)) (E.exprs P t lower d slots args q)
-            (λ vs s. E.call P t lower d m2 (slice_get P.methods m2) (address_of on) vs s)
+            (λ vs s. E.call_method P t lower d m2 (slice_get P.methods m2) (address_of on) vs s)
             (λ vs z g2 as_many w3 is3. call_comes P t m0 base Goal neat m below d few tower n lower ok slots ops vs on w3 rest z m2 (count ∙ sym as_many) is3 g2) h)) k)
         sim (NewE c args) (each, count) ops rest w p is k = sims args each ops (Act (W.New c) ∷ rest) w p (is ∙ new_unfolds c args rest)
             (chain S0 D0 (Next ops rest true) (NextEach (argument_count args) ops (Act (W.New c) ∷ rest)) (E.exprs P t lower d slots args p) (λ vs r. make P t c (slice_get P.classes c) vs r)

@@ -17,10 +17,10 @@ use Rattle.semantics.specs.Locking.{taken_again}
 use Rattle.semantics.specs.Step as S
 use Rattle.semantics.specs.Step.{Outcome, Moves, Absent, IsDone, HadFaulted, Waits, changed, seen_by, with_result, act, act_next}
 use Rattle.semantics.specs.Run.{frames_of}
-use Rattle.reduction.specs.Fits.{finals_of}
+use Rattle.reduction.specs.Fits.{final_field_count}
 use Rattle.replay.specs.Plain.{Plain}
 use Rattle.replay.specs.Answers.{Gives, End, GoesOn, Returns, Ended}
-use Rattle.replay.specs.Evaluation.{most_number, most_depth, unless_full, value_found, computed, stored, read_field, write_field, written, make, start_run, start_on, take_held, take_lock, give_held, give_lock}
+use Rattle.replay.specs.Evaluation.{most_number, most_depth, unless_full, value_found, computed, stored, read_field, write_field, field_written, make, start_thread, start_on, take_held_lock, take_lock, give_held, give_lock}
 use Rattle.replay.proofs.Comes.{Local, gone, alone, Own, Above, Comes, there, still, stuck, goes, before, IsFull, objects, threads, locks, After, frame, at}
 
 -- Operands.
@@ -158,7 +158,7 @@ module _ (P : Program) (t m0 : ℕ) (base : List Frame) (Goal : Local → Type 0
       get_leads f v ops (Some a) k = get_value_leads v ops a (slice_get P.fields f) _ k
 
       put_value_leads : (on v : Value) (a : Address) (field : Option Field) (o : Option Value)
-          → After ShortOk DeepOk (λ (_ : Unit {0}) q. Ends n m below rest (record { end = GoesOn; slots = slots }) q) (written a (S.index_of field) v o p)
+          → After ShortOk DeepOk (λ (_ : Unit {0}) q. Ends n m below rest (record { end = GoesOn; slots = slots }) q) (field_written a (S.index_of field) v o p)
           → Leads n p (S.put_value P (seen_by t p) t (frame m slots (v ∷ on ∷ []) w) below rest a field o)
       put_value_leads on v a field None k = faulted n slots (v ∷ on ∷ []) w p _
       put_value_leads on v a field (Some old) k = k rest refl
@@ -197,7 +197,7 @@ module _ (P : Program) (t m0 : ℕ) (base : List Frame) (Goal : Local → Type 0
           inr (subst (λ z. Made c z (dropped (length class.finals) (pushed vs ops))) (sym (taken_pushed vs (length class.finals) ops count))
           (subst (Made c vs) (sym (dropped_pushed vs (length class.finals) ops count)) (k rest refl)))
 
-      pub new_leads : (c : ℕ) (vs ops : List Value) (o : Option Class) → finals_of o ≡ length vs → After ShortOk DeepOk (Push n m below slots ops rest true) (make P t c o vs p)
+      pub new_leads : (c : ℕ) (vs ops : List Value) (o : Option Class) → final_field_count o ≡ length vs → After ShortOk DeepOk (Push n m below slots ops rest true) (make P t c o vs p)
           → Goal (at m below slots (pushed vs ops) w p) ⊎ Leads n p (S.new P (seen_by t p) t (frame m slots (pushed vs ops) w) below rest c o)
       new_leads c vs ops None count k = inr (faulted n slots (pushed vs ops) w p _)
       new_leads c vs ops (Some class) count k = made_leads c vs ops class count (nat_lt most_number (made_by t p.heap)) refl k
@@ -213,7 +213,7 @@ module _ (P : Program) (t m0 : ℕ) (base : List Frame) (Goal : Local → Type 0
           by_room r true e k = inl (k (at m below slots (v ∷ []) w p) (threads (ltb-true most_number (length p.threads) e)))
           by_room r false e k = inr (k rest refl)
 
-          by_run : (o : Option ℕ) → After ShortOk DeepOk (λ (_ : Unit {0}) q. Ends n m below rest (record { end = GoesOn; slots = slots }) q) (start_run a o p)
+          by_run : (o : Option ℕ) → After ShortOk DeepOk (λ (_ : Unit {0}) q. Ends n m below rest (record { end = GoesOn; slots = slots }) q) (start_thread a o p)
               → Goal (at m below slots (v ∷ []) w p) ⊎ Leads n p (S.start_run P (seen_by t p) t (frame m slots (v ∷ []) w) below rest a o)
           by_run None k = inr (faulted n slots (v ∷ []) w p _)
           by_run (Some r) k = by_room r (nat_lt most_number (length p.threads)) refl k
@@ -230,7 +230,7 @@ module _ (P : Program) (t m0 : ℕ) (base : List Frame) (Goal : Local → Type 0
           by_room true e k = inl (k (at m below slots (v ∷ []) w p) (locks a hold is (ltb-true most_number (hold.count + 1) e)))
           by_room false e k = inr k
 
-          by_mine : (b : Bool) → After ShortOk DeepOk (λ (_ : Unit {0}) q. Comes P t m0 base Goal n (at m below slots [] (St s ∷ Act (W.Release a) ∷ rest) q)) (take_held a hold b p)
+          by_mine : (b : Bool) → After ShortOk DeepOk (λ (_ : Unit {0}) q. Comes P t m0 base Goal n (at m below slots [] (St s ∷ Act (W.Release a) ∷ rest) q)) (take_held_lock a hold b p)
               → Goal (at m below slots (v ∷ []) w p) ⊎ Leads n p (S.take_held P (seen_by t p) t (frame m slots (v ∷ []) w) below rest s a hold b)
           by_mine false k = inr tt
           by_mine true k = by_room (nat_lt most_number (hold.count + 1)) refl k

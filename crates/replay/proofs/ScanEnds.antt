@@ -9,7 +9,7 @@ use Rattle.state.specs.States.{State}
 use Rattle.semantics.specs.Run.{run, inside, IsUninterrupted}
 use Rattle.replay.specs.Evaluation.{most_depth}
 use Rattle.replay.specs.Calls.{IsCallAt, depth}
-use Rattle.replay.specs.Records.{Told, AreCallsTold, HasNoDeep, IsTooDeep}
+use Rattle.replay.specs.Records.{Told, AreCallsTold, HasNoDeep, IsFirstTooDeep}
 use Rattle.replay.specs.Scanning.{Begun}
 use Rattle.replay.proofs.Schedules.{prefix_runs, entry_before}
 use Rattle.replay.proofs.Scan.{IsOpen, Told_to, stays, whole}
@@ -60,7 +60,7 @@ module _ (P : Program) (s : List ℕ) (alone : IsUninterrupted P s) where
         }
 
     -- what is open and has too many frames is the first call that has
-    pub too_deep : (n : ℕ) (q : State) (calls : List Told) → n ≤ length s → At n q → IsOpen P s alone true n q b → Told_to P s alone n calls → b.frames + most_depth < depth (slice_get q.threads b.thread) → IsTooDeep P s b.entry
+    pub too_deep : (n : ℕ) (q : State) (calls : List Told) → n ≤ length s → At n q → IsOpen P s alone true n q b → Told_to P s alone n calls → b.frames + most_depth < depth (slice_get q.threads b.thread) → IsFirstTooDeep P s b.entry
     too_deep n q calls within at o told many =
         let e = goes_out (length s - n) n q o.place o.before (omega (arith, within)) at plain_open o.entry o.starts in
         record {

@@ -11,7 +11,7 @@ use Rattle.semantics.proofs.StepCases.{absent_is}
 use Rattle.replay.specs.Plain.{plain_of}
 use Rattle.replay.specs.Evaluation.{most_depth}
 use Rattle.replay.specs.Calls.{Asked, asked_by, depth, result_in}
-use Rattle.replay.specs.Records.{Told, IsTooDeep}
+use Rattle.replay.specs.Records.{Told, IsFirstTooDeep}
 use Rattle.replay.specs.Scanning.{Begun, NextScan, Goes, Deep, entered_in, begun_in, told_call, low_or_deep, next_by, next_of}
 use Rattle.replay.proofs.Opens.{opening, step_prints, more_prints}
 use Rattle.replay.proofs.Whole.{moved_entry}
@@ -32,7 +32,7 @@ module _ (P : Program) (s : List ℕ) (alone : IsUninterrupted P s) where
   -- what an answer has to say
   abbrev IsRight : ℕ → State → List Told → NextScan → Type 0
   IsRight n r calls (Goes o more) = Scanned n r (calls ++ more) o
-  IsRight n r calls (Deep entry) = IsTooDeep P s entry
+  IsRight n r calls (Deep entry) = IsFirstTooDeep P s entry
 
   module _ (out : (z : State) → run P s ≡ Some z → (u : ℕ) → inside P z u ≡ false)
       (n t : ℕ) (q r : State) (at : run P (take n s) ≡ Some q) (next : run P (take (n + 1) s) ≡ Some r) (is_entry : slice_get s n ≡ Some t) (stepped : step P q t ≡ Some r) (calls : List Told) where
@@ -120,5 +120,5 @@ module _ (P : Program) (s : List ℕ) (alone : IsUninterrupted P s) where
     pub goes_right : (open_ o : Option Begun) (more : List Told) → Scanned n q calls open_ → next_of P q r (n + 1) t open_ ≡ Goes o more → Scanned (n + 1) r (calls ++ more) o
     goes_right open_ o more h e = subst (IsRight (n + 1) r calls) e (right_next open_ h)
 
-    pub deep_right : (open_ : Option Begun) (entry : ℕ) → Scanned n q calls open_ → next_of P q r (n + 1) t open_ ≡ Deep entry → IsTooDeep P s entry
+    pub deep_right : (open_ : Option Begun) (entry : ℕ) → Scanned n q calls open_ → next_of P q r (n + 1) t open_ ≡ Deep entry → IsFirstTooDeep P s entry
     deep_right open_ entry h e = subst (IsRight (n + 1) r calls) e (right_next open_ h)

@@ -12,7 +12,7 @@ use Rattle.state.specs.States.{new_slots}
 use Rattle.state.specs.Values.{as_truth}
 use Rattle.replay.specs.Plain.{Plain}
 use Rattle.replay.specs.Answers.{Answer, Gives, Fails, Blocked, Short, Deep, then_do, Returns, Ended, ended_value, completed_normally, next_after, in_turn}
-use Rattle.replay.specs.Evaluation.{Lower, lower_of, exprs, stmt, loop_turn, body_of, inner}
+use Rattle.replay.specs.Evaluation.{Lower, lower_of, exprs, stmt, loop_turn, body_of, body_unless_deep}
 use Rattle.replay.specs.declared.ends.EvalEnd.{EvalEnd}
 use Rattle.replay.specs.Ends.{IsEvaluationEnd}
 use Rattle.replay.specs.Evaluating.{expr_answer, exprs_answer, stmt_answer, block_answer, body_answer}
@@ -164,7 +164,7 @@ module _ (P : Program) (t n d less : ℕ) (method : Method) (a : Address) (argum
   body_is : n ≡ suc less → nat_lt d 100 ≡ true → body_answer P t n d method a arguments q
       ≡ then_do (stmt_answer P t less (suc d) (new_slots method (value.Ref a) arguments) method.body q) (λ x r. Gives (ended_value x.end) r)
   body_is is few = ap (λ k. body_of P t (lower_of P t k) d (lower_of P t k) method.body (new_slots method (value.Ref a) arguments) q) is
-      ∙ ap (λ b. inner P t (lower_of P t (suc less)) d (lower_at P t less) b method.body (new_slots method (value.Ref a) arguments) q) few
+      ∙ ap (λ b. body_unless_deep P t (lower_of P t (suc less)) d (lower_at P t less) b method.body (new_slots method (value.Ref a) arguments) q) few
 
   pub body_fails : (deeper : ℕ) (slots : List Value) (x : EvalEnd) → n ≡ suc less → nat_lt d 100 ≡ true → deeper ≡ suc d → slots ≡ new_slots method (value.Ref a) arguments
       → IsEvaluationEnd x (stmt_answer P t less deeper slots method.body q) → IsEvaluationEnd x (body_answer P t n d method a arguments q)

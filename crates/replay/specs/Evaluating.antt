@@ -7,7 +7,7 @@ use Rattle.state.specs.declared.value.Value.TheVariants as value
 use Rattle.state.specs.States.{new_slots}
 use Rattle.replay.specs.Plain.{Plain}
 use Rattle.replay.specs.Answers.{Answer, Gives, then_do, Ended}
-use Rattle.replay.specs.Evaluation.{lower_of, expr, exprs, stmt, stmts, call, body_of}
+use Rattle.replay.specs.Evaluation.{lower_of, expr, exprs, stmt, stmts, call_method, body_of}
 
 module _ (P : Program) (t n d : ℕ) where
   -- the value of an expression in a frame with these slots
@@ -28,7 +28,7 @@ module _ (P : Program) (t n d : ℕ) where
 
   -- the value of a call of method m on this receiver, with these arguments
   abbrev pub call_answer : ℕ → Option Address → List Value → Plain → Answer Value
-  call_answer m on arguments q = call P t (lower_of P t n) d m (slice_get P.methods m) on arguments q
+  call_answer m on arguments q = call_method P t (lower_of P t n) d m (slice_get P.methods m) on arguments q
 
   -- the value that a method's body gives, which begins with `this`, the arguments and 0 in each other slot
   abbrev pub body_answer : Method → Address → List Value → Plain → Answer Value

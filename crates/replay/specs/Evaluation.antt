@@ -59,14 +59,14 @@ followed_by P [] v q = Gives v q
 followed_by P (f ∷ fs) v q = then_do (read_field P f (address_of v) q) (λ next r. followed_by P fs next r)
 
 -- writes a field, where it has an old value
-abbrev pub written : Address → (index : ℕ) → Value → Option Value → Plain → Answer (Unit {0})
-written a index v None q = Fails fault.Null
-written a index v (Some old) q = Gives tt (changed (FieldIs a index v) q)
+abbrev pub field_written : Address → (index : ℕ) → Value → Option Value → Plain → Answer (Unit {0})
+field_written a index v None q = Fails fault.Null
+field_written a index v (Some old) q = Gives tt (changed (FieldIs a index v) q)
 
 -- writes a field of what an operand refers to, unless it is final
 abbrev pub write_field : Program → ℕ → Option Address → Value → Plain → Answer (Unit {0})
 write_field P f None v q = Fails fault.Null
-write_field P f (Some a) v q = written a (index_of (slice_get P.fields f)) v (unless_final (slice_get P.fields f) (value_in P q.heap a f)) q
+write_field P f (Some a) v q = field_written a (index_of (slice_get P.fields f)) v (unless_final (slice_get P.fields f) (value_in P q.heap a f)) q
 
 -- makes an object of a class from the arguments for its final fields; it has the thread's next address
 abbrev pub make : Program → (t c : ℕ) → Option Class → List Value → Plain → Answer Value
@@ -75,24 +75,24 @@ make P t c (Some class) arguments q = unless_full (nat_lt most_number (made_by t
     (Gives (value.Ref (next_address t q.heap)) (changed (ObjectIs (next_address t q.heap) (new_object P c arguments)) q))
 
 -- starts a thread that runs a method on an object
-abbrev pub start_run : Address → Option ℕ → Plain → Answer (Unit {0})
-start_run a None q = Fails fault.Null
-start_run a (Some m) q = unless_full (nat_lt most_number (length q.threads)) (Gives tt (changed (Starts a m) q))
+abbrev pub start_thread : Address → Option ℕ → Plain → Answer (Unit {0})
+start_thread a None q = Fails fault.Null
+start_thread a (Some m) q = unless_full (nat_lt most_number (length q.threads)) (Gives tt (changed (Starts a m) q))
 
 -- starts a thread on what an operand refers to
 abbrev pub start_on : Program → Option Address → Plain → Answer (Unit {0})
 start_on P None q = Fails fault.Null
-start_on P (Some a) q = start_run a (run_of P (object_class (M.get q.heap a))) q
+start_on P (Some a) q = start_thread a (run_of P (object_class (M.get q.heap a))) q
 
 -- takes a lock that is held: once more where this thread holds it
-abbrev pub take_held : Address → Hold → (mine : Bool) → Plain → Answer (Unit {0})
-take_held a hold false q = Blocked a hold.holder
-take_held a hold true q = unless_full (nat_lt most_number (hold.count + 1)) (Gives tt (changed (LockIs a (Some (taken_again hold))) q))
+abbrev pub take_held_lock : Address → Hold → (mine : Bool) → Plain → Answer (Unit {0})
+take_held_lock a hold false q = Blocked a hold.holder
+take_held_lock a hold true q = unless_full (nat_lt most_number (hold.count + 1)) (Gives tt (changed (LockIs a (Some (taken_again hold))) q))
 
 -- takes a lock that is free or held
 abbrev pub take_lock : ℕ → Address → Option Hold → Plain → Answer (Unit {0})
 take_lock t a None q = Gives tt (changed (LockIs a (Some (record { holder = t; count = 1 }))) q)
-take_lock t a (Some hold) q = take_held a hold (hold.holder == t) q
+take_lock t a (Some hold) q = take_held_lock a hold (hold.holder == t) q
 
 -- gives a lock back once, where this thread holds it
 abbrev pub give_held : Address → Hold → (mine : Bool) → Plain → Answer (Unit {0})
@@ -121,34 +121,34 @@ Lower = (depth : ℕ) → Stmt → List Value → Plain → Answer Ended
 -- in a program, for a thread and a body with so many open calls
 module _ (P : Program) (t : ℕ) (lower : Option Lower) (d : ℕ) where
   -- evaluates the body of a call, unless it is deep
-  abbrev pub inner : Lower → Bool → Stmt → List Value → Plain → Answer Value
-  inner low false body slots q = Deep
-  inner low true body slots q = then_do (low (suc d) body slots q) (λ x r. Gives (ended_value x.end) r)
+  abbrev pub body_unless_deep : Lower → Bool → Stmt → List Value → Plain → Answer Value
+  body_unless_deep low false body slots q = Deep
+  body_unless_deep low true body slots q = then_do (low (suc d) body slots q) (λ x r. Gives (ended_value x.end) r)
 
   -- evaluates the body of a call; it takes a turn
   abbrev pub body_of : Option Lower → Stmt → List Value → Plain → Answer Value
   body_of None body slots q = Short
-  body_of (Some low) body slots q = inner low (nat_lt d most_depth) body slots q
+  body_of (Some low) body slots q = body_unless_deep low (nat_lt d most_depth) body slots q
 
   -- enters the method that runs, where it is there
-  abbrev pub enter : Option Method → Address → List Value → Plain → Answer Value
-  enter None a arguments q = Fails fault.Null
-  enter (Some method) a arguments q = body_of lower method.body (new_slots method (value.Ref a) arguments) q
+  abbrev pub enter_method : Option Method → Address → List Value → Plain → Answer Value
+  enter_method None a arguments q = Fails fault.Null
+  enter_method (Some method) a arguments q = body_of lower method.body (new_slots method (value.Ref a) arguments) q
 
   -- enters the method that runs for the object's class, where there is one
-  abbrev pub dispatch : Option ℕ → Address → List Value → Plain → Answer Value
-  dispatch None a arguments q = Fails fault.Null
-  dispatch (Some m) a arguments q = enter (slice_get P.methods m) a arguments q
+  abbrev pub dispatch_call : Option ℕ → Address → List Value → Plain → Answer Value
+  dispatch_call None a arguments q = Fails fault.Null
+  dispatch_call (Some m) a arguments q = enter_method (slice_get P.methods m) a arguments q
 
   -- calls a method on what the receiver refers to
-  abbrev pub call_on : ℕ → Option Address → List Value → Plain → Answer Value
-  call_on m None arguments q = Fails fault.Null
-  call_on m (Some a) arguments q = dispatch (target_at P m (object_class (M.get q.heap a))) a arguments q
+  abbrev pub call_method_on : ℕ → Option Address → List Value → Plain → Answer Value
+  call_method_on m None arguments q = Fails fault.Null
+  call_method_on m (Some a) arguments q = dispatch_call (target_at P m (object_class (M.get q.heap a))) a arguments q
 
   -- calls a method, where it is there
-  abbrev pub call : ℕ → Option Method → Option Address → List Value → Plain → Answer Value
-  call m None on arguments q = Fails fault.Null
-  call m (Some method) on arguments q = call_on m on arguments q
+  abbrev pub call_method : ℕ → Option Method → Option Address → List Value → Plain → Answer Value
+  call_method m None on arguments q = Fails fault.Null
+  call_method m (Some method) on arguments q = call_method_on m on arguments q
 
   -- a turn of a loop, and then the loop again; it takes a turn
   abbrev pub loop_turn : Option Lower → Expr → Stmt → List Value → Plain → Answer Ended
@@ -171,7 +171,7 @@ module _ (P : Program) (t : ℕ) (lower : Option Lower) (d : ℕ) where
       expr (AndE a b) q = then_do (expr a q) (λ v r. if as_truth v then expr b r else Gives (value.Truth false) r)
       expr (OrE a b) q = then_do (expr a q) (λ v r. if as_truth v then Gives (value.Truth true) r else expr b r)
       expr (GetE e f) q = then_do (expr e q) (λ v r. read_field P f (address_of v) r)
-      expr (CallE e m args) q = then_do (expr e q) (λ on r. then_do (exprs args r) (λ vs s. call m (slice_get P.methods m) (address_of on) vs s))
+      expr (CallE e m args) q = then_do (expr e q) (λ on r. then_do (exprs args r) (λ vs s. call_method m (slice_get P.methods m) (address_of on) vs s))
       expr (NewE c args) q = then_do (exprs args q) (λ vs r. make P t c (slice_get P.classes c) vs r)
 
       -- the values of arguments, in order

@@ -42,7 +42,7 @@ abbrev pub HasNoDeep : Program → List ℕ → Type 0
 HasNoDeep P s = (place k t : ℕ) (q r : State) → IsCallAt P s place k t q r → IsDeep P t k q → ⊥
 
 -- the call whose first entry has this number, counted from 1, is the first of the schedule that has more than 100 frames of its own at some moment
-pub record IsTooDeep (P : Program) (s : List ℕ) (entry : ℕ) : Type 0 where
+pub record IsFirstTooDeep (P : Program) (s : List ℕ) (entry : ℕ) : Type 0 where
   pub place : ℕ
   pub steps : ℕ
   pub thread : ℕ

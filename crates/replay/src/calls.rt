@@ -4,7 +4,7 @@ ghost use Rattle.core_program.specs.Views.{program_of};
 ghost use Rattle.state.specs.States.{State};
 ghost use Rattle.compile.specs.IsCode.{IsCodeOf};
 ghost use Rattle.semantics.specs.Run.{run, inside, IsUninterrupted};
-ghost use Rattle.replay.specs.Records.{AreCallsTold, HasNoDeep, IsTooDeep};
+ghost use Rattle.replay.specs.Records.{AreCallsTold, HasNoDeep, IsFirstTooDeep};
 ghost use Rattle.replay.specs.Views.{record_told, all_told_in};
 ghost use Rattle.replay.specs.declared.calls.ReplayEnd.TheVariants as ends;
 
@@ -85,8 +85,8 @@ pub fn replay(
     requires whole { (q : State) → run (program_of program.now) schedule.now ≡ Some q → (t : ℕ) → inside (program_of program.now) q t ≡ false }
     ensures calls { IfOk result (λ calls. AreCallsTold (program_of program.now) schedule.now (map record_told calls.items)) }
     ensures few { IfOk result (λ _. HasNoDeep (program_of program.now) schedule.now) }
-    ensures deep { (entry : ℕ) → IsErrOf result (ends.TooDeep entry) → IsTooDeep (program_of program.now) schedule.now entry }
-    ensures deeper { (entry : ℕ) → IsTooDeep (program_of program.now) schedule.now entry →
+    ensures deep { (entry : ℕ) → IsErrOf result (ends.TooDeep entry) → IsFirstTooDeep (program_of program.now) schedule.now entry }
+    ensures deeper { (entry : ℕ) → IsFirstTooDeep (program_of program.now) schedule.now entry →
         MatchResult result (λ _. ⊥) (λ e. (e ≡ ends.TooDeep entry) ⊎ (e ≡ ends.NoMemory)) }
 {
     let mut machine = Machine::start(alloc, program, code)?;

@@ -11,7 +11,7 @@ ghost use Rattle.state.specs.Stored.{HasField};
 ghost use Rattle.semantics.specs.Step.{Prints, changed, index_of, unless_final, object_class, target_at, run_of};
 ghost use Rattle.replay.specs.Plain as plain;
 ghost use Rattle.replay.specs.Answers.{Gives, Fails};
-ghost use Rattle.replay.specs.Evaluation.{Lower, stored, call, body_of, most_number, value_found, computed, read_field, followed_by, write_field, make, start_on, take_lock, give_lock};
+ghost use Rattle.replay.specs.Evaluation.{Lower, stored, call_method, body_of, most_number, value_found, computed, read_field, followed_by, write_field, make, start_on, take_lock, give_lock};
 ghost use Rattle.replay.specs.Ends.{IsEvaluationEnd, ended};
 
 use crate::ends::{EvalEnd, Flow};
@@ -241,8 +241,8 @@ pub(crate) fn chosen<'p>(
     on: Option<Address>,
 ) -> Option<(Address, &'p CoreMethod)>
     ensures answer { (t d : ℕ) (lower : Option Lower) (vs : List Value) → MatchOption result
-        (call (program_of program.now) t lower d method (slice_get (program_of program.now).methods method) on vs plain.now ≡ Fails fault.Null)
-        (λ c. call (program_of program.now) t lower d method (slice_get (program_of program.now).methods method) on vs plain.now
+        (call_method (program_of program.now) t lower d method (slice_get (program_of program.now).methods method) on vs plain.now ≡ Fails fault.Null)
+        (λ c. call_method (program_of program.now) t lower d method (slice_get (program_of program.now).methods method) on vs plain.now
         ≡ body_of (program_of program.now) t lower d lower (method_of c.1.now).body (new_slots (method_of c.1.now) (value.Ref c.0) vs) plain.now) }
     ensures listed { IfSome result (λ c. (m : ℕ) × (slice_get program.now.methods.items m ≡ Some c.1.now)) }
 {

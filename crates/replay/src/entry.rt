@@ -8,7 +8,7 @@ ghost use Rattle.serialise.specs.Calls.{AreCalls};
 ghost use Rattle.replay.specs.Scanning as scan;
 ghost use Rattle.replay.specs.Calls.{depth, result_in};
 ghost use Rattle.replay.specs.Views.{record_told, all_told_in, begun_of, open_of, IsDeepEnd};
-ghost use Rattle.serialise.specs.Tables.{value_at};
+ghost use Rattle.serialise.specs.Tables.{value_or};
 
 use crate::begun::Begun;
 use crate::calls::{CallRecord, ReplayEnd};
@@ -166,11 +166,11 @@ pub(crate) fn enter(
     thread: u32,
 ) -> Result<Added, ReplayEnd>
     requires { machine.old.made < 4294967295 }
-    ensures next { (q r : State) → StandsFor machine.old q → AreCalls (program_run machine.old) q (value_at 0 calls.old.items) → step (program_run machine.old) q thread ≡ Some r → MatchResult result
+    ensures next { (q r : State) → StandsFor machine.old q → AreCalls (program_run machine.old) q (value_or 0 calls.old.items) → step (program_run machine.old) q thread ≡ Some r → MatchResult result
         (λ a. scan.next_of (program_run machine.old) q r entry thread (open_of opened) ≡ scan.Goes (open_of a.open) (all_told_in a.told))
         (λ e. IsDeepEnd e (scan.next_of (program_run machine.old) q r entry thread (open_of opened))) }
-    ensures stands { OnOk result ((q r : State) → StandsFor machine.old q → AreCalls (program_run machine.old) q (value_at 0 calls.old.items) → step (program_run machine.old) q thread ≡ Some r →
-        StandsFor machine.new r × AreCalls (program_run machine.old) r (value_at 0 calls.new.items)) }
+    ensures stands { OnOk result ((q r : State) → StandsFor machine.old q → AreCalls (program_run machine.old) q (value_or 0 calls.old.items) → step (program_run machine.old) q thread ≡ Some r →
+        StandsFor machine.new r × AreCalls (program_run machine.old) r (value_or 0 calls.new.items)) }
     ensures counted { OnOk result (machine.new.made ≡ machine.old.made + 1) }
     ensures program { machine.new.program ≡ machine.old.program }
 {

@@ -14,7 +14,7 @@ use Rattle.state.specs.declared.value.Address.{Address}
 use Rattle.state.specs.Memory.{address_cmp}
 use Rattle.state.proofs.Addresses.{address_total, address_exact, address_itself}
 use Rattle.state.proofs.Numbering.{less_is, first_fact, second_fact}
-use Rattle.report.specs.Entries.{of_thread, entry_at}
+use Rattle.report.specs.Entries.{of_thread, entry_if_there}
 
 -- Tests on numbers of addresses.
 
@@ -75,26 +75,26 @@ module _ {X : Type 0} where
       other t u less = grind (arith, nat_tests)
 
   -- the entry at an address comes first of its row from there on
-  pub row_step : (a : Address) (es : List (Address × X)) → T (is_sorted address_cmp es) → row_from a.thread a.count es ≡ entry_at a (find address_cmp a es) ++ row_from a.thread (a.count + 1) es
+  pub row_step : (a : Address) (es : List (Address × X)) → T (is_sorted address_cmp es) → row_from a.thread a.count es ≡ entry_if_there a (find address_cmp a es) ++ row_from a.thread (a.count + 1) es
   row_step a [] sorted = refl
   row_step a (e ∷ es) sorted =
-      elim (address_cmp a e.0) as (λ o. address_cmp a e.0 ≡ o → row_from a.thread a.count (e ∷ es) ≡ entry_at a (find address_cmp a (e ∷ es)) ++ row_from a.thread (a.count + 1) (e ∷ es)) [
+      elim (address_cmp a e.0) as (λ o. address_cmp a e.0 ≡ o → row_from a.thread a.count (e ∷ es) ≡ entry_if_there a (find address_cmp a (e ∷ es)) ++ row_from a.thread (a.count + 1) (e ∷ es)) [
         | Less ↦ λ less.
             let all : T (below_all address_cmp a (e ∷ es)) = both_of (is_lt (address_cmp a e.0)) (below_all address_cmp a es) (ap is_lt less) (below_more a e.0 es less behind) in
-            row_behind a (e ∷ es) all ∙ ap (λ o. entry_at a o ++ row_from a.thread (a.count + 1) (e ∷ es)) (sym (none_found a (e ∷ es) all))
+            row_behind a (e ∷ es) all ∙ ap (λ o. entry_if_there a o ++ row_from a.thread (a.count + 1) (e ∷ es)) (sym (none_found a (e ∷ es) all))
         | Equal ↦ λ equal.
-            subst (λ (b : Address). row_from b.thread b.count (e ∷ es) ≡ entry_at b (find address_cmp b (e ∷ es)) ++ row_from b.thread (b.count + 1) (e ∷ es)) (sym (address_exact a e.0 equal)) (
+            subst (λ (b : Address). row_from b.thread b.count (e ∷ es) ≡ entry_if_there b (find address_cmp b (e ∷ es)) ++ row_from b.thread (b.count + 1) (e ∷ es)) (sym (address_exact a e.0 equal)) (
             ap (λ (b : Bool). cond b (e ∷ row_from e.0.thread e.0.count es) (row_from e.0.thread e.0.count es)) (own_count e.0.thread e.0.count)
             ∙ ap (λ l. e ∷ l) (row_behind e.0 es behind)
             ∙ ap (λ l. e ∷ l) (sym (ap (λ (b : Bool). cond b (e ∷ row_from e.0.thread (e.0.count + 1) es) (row_from e.0.thread (e.0.count + 1) es)) (next_count e.0.thread e.0.count)))
-            ∙ ap (λ o. entry_at e.0 o ++ row_from e.0.thread (e.0.count + 1) (e ∷ es)) (sym (ap (λ o. cond (is_eq o) (Some e.1) (find address_cmp e.0 es)) (address_itself e.0)))
+            ∙ ap (λ o. entry_if_there e.0 o ++ row_from e.0.thread (e.0.count + 1) (e ∷ es)) (sym (ap (λ o. cond (is_eq o) (Some e.1) (find address_cmp e.0 es)) (address_itself e.0)))
             )
         | Greater ↦ λ greater.
             let before : is_lt (address_cmp e.0 a) ≡ true = flipped a e.0 greater in
             ap (λ (b : Bool). cond b (e ∷ row_from a.thread a.count es) (row_from a.thread a.count es)) (more_count a e.0 a.count (omega arith) before)
             ∙ row_step a es (second_fact (below_all address_cmp e.0 es) (is_sorted address_cmp es) sorted)
-            ∙ ap (λ o. entry_at a o ++ row_from a.thread (a.count + 1) es) (sym (ap (λ o. cond (is_eq o) (Some e.1) (find address_cmp a es)) greater))
-            ∙ ap (λ l. entry_at a (find address_cmp a (e ∷ es)) ++ l) (sym (ap (λ (b : Bool). cond b (e ∷ row_from a.thread (a.count + 1) es) (row_from a.thread (a.count + 1) es)) (more_count a e.0 (a.count + 1) (omega arith) before)))
+            ∙ ap (λ o. entry_if_there a o ++ row_from a.thread (a.count + 1) es) (sym (ap (λ o. cond (is_eq o) (Some e.1) (find address_cmp a es)) greater))
+            ∙ ap (λ l. entry_if_there a (find address_cmp a (e ∷ es)) ++ l) (sym (ap (λ (b : Bool). cond b (e ∷ row_from a.thread (a.count + 1) es) (row_from a.thread (a.count + 1) es)) (more_count a e.0 (a.count + 1) (omega arith) before)))
       ] refl
     where
       behind : T (below_all address_cmp e.0 es)

@@ -8,6 +8,6 @@ abbrev pub of_thread : {A : Type 0} → ℕ → List (Address × A) → List (Ad
 of_thread t entries = filter (λ e. e.0.thread == t) entries
 
 -- the entry at an address, where something is there
-abbrev pub entry_at : {A : Type 0} → Address → Option A → List (Address × A)
-entry_at a None = []
-entry_at a (Some v) = (a, v) ∷ []
+abbrev pub entry_if_there : {A : Type 0} → Address → Option A → List (Address × A)
+entry_if_there a None = []
+entry_if_there a (Some v) = (a, v) ∷ []

@@ -38,5 +38,5 @@ abbrev pub stopped_line : Stopped → List ℕ
 stopped_line stopped = codes "entry " ++ decimal stopped.entry ++ codes ": thread " ++ decimal stopped.thread ++ codes " " ++ reason_text stopped.why ++ codes "\n"
 
 -- `thread T is inside an atomic call`
-abbrev pub open_line : ℕ → List ℕ
-open_line thread = codes "thread " ++ decimal thread ++ codes " is inside an atomic call" ++ codes "\n"
+abbrev pub inside_call_line : ℕ → List ℕ
+inside_call_line thread = codes "thread " ++ decimal thread ++ codes " is inside an atomic call" ++ codes "\n"

@@ -71,8 +71,8 @@ pub record ThreadSight : Type 0 where
   pub frames : ℕ
 
 -- the same of a thread with frames of some type, which have these methods
-abbrev pub sight_of : {F : Type 0} → (F → ℕ) → ThreadOf F → ThreadSight
-sight_of method_of thread = record { status = thread_status thread; method = option_map method_of (top_frame thread); frames = length (frames_in thread) }
+abbrev pub sight_by_methods : {F : Type 0} → (F → ℕ) → ThreadOf F → ThreadSight
+sight_by_methods method_of thread = record { status = thread_status thread; method = option_map method_of (top_frame thread); frames = length (frames_in thread) }
 
 -- the method of the top frame: `C.M`
 abbrev pub top_text : TableData → Option ℕ → List ℕ
@@ -96,13 +96,13 @@ threads_text table t (sight ∷ sights) = thread_line table t sight ++ threads_t
 
 -- the text of a state with frames of some type, which have these methods: the printed numbers in order, then objects and held
 -- locks in ascending order of address, then the threads
-abbrev pub text_of : {F : Type 0} → (F → ℕ) → Program → TableData → StateOf F → List ℕ
-text_of method_of P table q =
+abbrev pub text_of_state : {F : Type 0} → (F → ℕ) → Program → TableData → StateOf F → List ℕ
+text_of_state method_of P table q =
     flat_map print_line q.output
     ++ flat_map (object_line P table) (finite.entries q.heap)
     ++ flat_map lock_line (finite.entries q.locks)
-    ++ threads_text table 0 (map (sight_of method_of) q.threads)
+    ++ threads_text table 0 (map (sight_by_methods method_of) q.threads)
 
 -- the text of a state of a program whose names stand in this table
 abbrev pub state_text : Program → TableData → State → List ℕ
-state_text P table q = text_of (λ f. f.method) P table q
+state_text P table q = text_of_state (λ f. f.method) P table q

@@ -30,8 +30,8 @@ fields_text table [] = []
 fields_text table (field ∷ fields) = codes "." ++ field_text table field ++ fields_text table fields
 
 -- a path in a method: its slot, then its fields
-abbrev pub path_text : TableData → ℕ → PathData → List ℕ
-path_text table method path = slot_text table method path.root ++ fields_text table path.fields
+abbrev pub method_path_text : TableData → ℕ → PathData → List ℕ
+method_path_text table method path = slot_text table method path.root ++ fields_text table path.fields
 
 -- a branch, given the text of its tree: in parentheses where the tree is a test
 abbrev pub branch_text : Cond → List ℕ → List ℕ
@@ -42,7 +42,7 @@ branch_text (TestC path held free) text = codes "(" ++ text ++ codes ")"
 abbrev pub condition_text : TableData → ℕ → Cond → List ℕ
 condition_text table method (LeafC basic) = name_of basic
 condition_text table method (TestC path held free) =
-    path_text table method path
+    method_path_text table method path
     ++ codes " ? " ++ branch_text held (condition_text table method held)
     ++ codes " : " ++ branch_text free (condition_text table method free)
 

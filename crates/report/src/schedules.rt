@@ -1,7 +1,7 @@
 //! The lines for schedules that are refused.
 
 ghost use Rattle.std.specs.Prelude.{◌≡◌, ◌≢◌, ◌++◌, string_bytes, IfOk, OnOk};
-ghost use Rattle.report.specs.Schedules.{refused_schedule_line, schedule_fault_line, reason_text, stopped_line, open_line};
+ghost use Rattle.report.specs.Schedules.{refused_schedule_line, schedule_fault_line, reason_text, stopped_line, inside_call_line};
 
 use crate::numbers::write_number;
 use crate::values::{fault_word, write_address};
@@ -71,7 +71,7 @@ pub fn stopped_text(alloc: Global, stopped: &Stopped) -> Result<String, NoMemory
 
 /// The line for a schedule at whose end this thread stands inside an atomic call.
 pub fn open_text(alloc: Global, thread: u32) -> Result<String, NoMemory>
-    ensures { IfOk result (λ line. string_bytes line ≡ open_line thread) }
+    ensures { IfOk result (λ line. string_bytes line ≡ inside_call_line thread) }
 {
     let mut line = String::from_str(alloc, "thread ")?;
     write_number(&mut line, thread)?;

@@ -7,8 +7,8 @@ ghost use Rattle.classes.specs.Views.{table_data};
 ghost use Rattle.core_program.specs.Views.{program_of};
 ghost use Rattle.machine.specs.Standing.{program_run, StandsFor};
 ghost use Rattle.state.specs.States.{State, fields_of};
-ghost use Rattle.report.specs.Entries.{of_thread, entry_at};
-ghost use Rattle.report.specs.States.{class_text, print_line, field_value_text, field_values_text, object_line, lock_line, top_text, status_text, thread_line, threads_text, sight_of, text_of, state_text};
+ghost use Rattle.report.specs.Entries.{of_thread, entry_if_there};
+ghost use Rattle.report.specs.States.{class_text, print_line, field_value_text, field_values_text, object_line, lock_line, top_text, status_text, thread_line, threads_text, sight_by_methods, text_of_state, state_text};
 
 use crate::numbers::write_number;
 use crate::values::{fault_word, write_address, write_value};
@@ -31,7 +31,7 @@ pub fn state_text(alloc: Global, table: &ClassTable, machine: &Machine) -> Resul
 
 /// The text of the machine's own state.
 fn machine_text(alloc: Global, table: &ClassTable, machine: &Machine) -> Result<String, NoMemory>
-    ensures { IfOk result (λ text. string_bytes text ≡ text_of (λ f. f.method) (program_run machine.now) (table_data table.now) machine.now.state) }
+    ensures { IfOk result (λ text. string_bytes text ≡ text_of_state (λ f. f.method) (program_run machine.now) (table_data table.now) machine.now.state) }
 {
     let mut text = String::new(alloc);
     write_output(&mut text, machine.output())?;
@@ -117,8 +117,8 @@ fn write_object_at(
     heap: &Heap,
     address: Address,
 ) -> Result<usize, NoMemory>
-    ensures text { OnOk result (string_bytes text.new ≡ string_bytes text.old ++ flat_map (object_line (program_of program.now) (table_data table.now)) (entry_at address (finite.get heap.now address))) }
-    ensures count { IfOk result (λ count. count ≡ length (entry_at address (finite.get heap.now address))) }
+    ensures text { OnOk result (string_bytes text.new ≡ string_bytes text.old ++ flat_map (object_line (program_of program.now) (table_data table.now)) (entry_if_there address (finite.get heap.now address))) }
+    ensures count { IfOk result (λ count. count ≡ length (entry_if_there address (finite.get heap.now address))) }
 {
     match heap.find(address) {
         Some((class, values)) => {
@@ -228,8 +228,8 @@ fn write_held(text: &mut String, locks: &Locks, thread: u32) -> Result<usize, No
 
 /// Writes the line of the held lock of an address, where there is one, and tells how many that is.
 fn write_lock_at(text: &mut String, locks: &Locks, address: Address) -> Result<usize, NoMemory>
-    ensures text { OnOk result (string_bytes text.new ≡ string_bytes text.old ++ flat_map lock_line (entry_at address (finite.get locks.now address))) }
-    ensures count { IfOk result (λ count. count ≡ length (entry_at address (finite.get locks.now address))) }
+    ensures text { OnOk result (string_bytes text.new ≡ string_bytes text.old ++ flat_map lock_line (entry_if_there address (finite.get locks.now address))) }
+    ensures count { IfOk result (λ count. count ≡ length (entry_if_there address (finite.get locks.now address))) }
 {
     match locks.find(address) {
         Some((holder, count)) => {
@@ -258,7 +258,7 @@ fn write_threads(
     table: &ClassTable,
     threads: &[ThreadCell],
 ) -> Result<(), NoMemory>
-    ensures { OnOk result (string_bytes text.new ≡ string_bytes text.old ++ threads_text (table_data table.now) 0 (map (sight_of (λ f. f.method)) threads.now)) }
+    ensures { OnOk result (string_bytes text.new ≡ string_bytes text.old ++ threads_text (table_data table.now) 0 (map (sight_by_methods (λ f. f.method)) threads.now)) }
 {
     for (number, thread) in threads.iter().enumerate() {
         write_thread(text, table, number, thread)?;
@@ -272,7 +272,7 @@ fn write_thread(
     number: usize,
     thread: &ThreadCell,
 ) -> Result<(), NoMemory>
-    ensures { OnOk result (string_bytes text.new ≡ string_bytes text.old ++ thread_line (table_data table.now) number (sight_of (λ f. f.method) thread.now)) }
+    ensures { OnOk result (string_bytes text.new ≡ string_bytes text.old ++ thread_line (table_data table.now) number (sight_by_methods (λ f. f.method) thread.now)) }
 {
     text.push_str("thread ")?;
     write_number(text, number)?;

@@ -4,7 +4,7 @@ ghost use Rattle.std.specs.Prelude.{◌≡◌, ◌++◌, [], codes, option_map, 
 ghost use Rattle.classes.specs.Views.{table_data};
 ghost use Rattle.conditions.specs.Conditions.{cond_of};
 ghost use Rattle.base.specs.Texts.{KeepsText};
-ghost use Rattle.report.specs.Verdicts.{title_text, field_text, fields_text, path_text, branch_text, condition_text, atomicity_line, broken_line};
+ghost use Rattle.report.specs.Verdicts.{title_text, field_text, fields_text, method_path_text, branch_text, condition_text, atomicity_line, broken_line};
 
 use classes::ClassTable;
 use conditions::Tree;
@@ -109,7 +109,7 @@ pub fn write_path(
     method: MethodId,
     path: &Path,
 ) -> Result<(), NoMemory>
-    ensures path { OnOk result (string_bytes line.new ≡ string_bytes line.old ++ path_text (table_data table.now) method path.now) }
+    ensures path { OnOk result (string_bytes line.new ≡ string_bytes line.old ++ method_path_text (table_data table.now) method path.now) }
     ensures kept { OnErr result (KeepsText (string_bytes line.old) (string_bytes line.new)) }
 {
     line.push_str(name_or_nothing(table.slot_name(method, path.root)))?;

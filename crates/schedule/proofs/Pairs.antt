@@ -4,7 +4,7 @@ use Rattle.std.specs.List.{list_any}
 use Rattle.std.proofs.Math.Bool.{or-false, and-false}
 use Rattle.std.proofs.lemmas.Bool.{and_parts, not-true}
 use Rattle.std.proofs.lemmas.List.{length-replicate}
-use Rattle.schedule.specs.Rounds.{worker_steps, acquires, worker_holds, goes, turns_taken, worker_entry, steps_after, steps_of_round, are_done, AreRounds, ended, round}
+use Rattle.schedule.specs.Rounds.{worker_steps, would_acquire, worker_holds, goes, turns_taken, worker_entry, steps_after, steps_of_round, are_done, AreRounds, ended, round}
 use Rattle.schedule.proofs.Resting.{rests, none_holds, none_at_all, after_resting, steps_resting, after_last, steps_last, all_rest}
 
 -- some rounds lead from these steps to those
@@ -87,10 +87,10 @@ rest_holds a b c x y m l k =
 
 -- a round, from the first of the two on
 first_turn : (a b c x y m l : ℕ) → Conditions a b c x y → goes false x (replicate m b ++ (y ∷ replicate l c)) ≡ first_goes x y
-first_turn a b c x y m l k = ap (λ z. nat_lt x worker_steps && not (acquires x && z)) (rest_holds a b c x y m l k)
+first_turn a b c x y m l k = ap (λ z. nat_lt x worker_steps && not (would_acquire x && z)) (rest_holds a b c x y m l k)
 
 second_turn : (a b c x y l : ℕ) → Conditions a b c x y → goes (worker_holds (first_now x y)) y (replicate l c) ≡ second_goes x y
-second_turn a b c x y l k = ap (λ z. nat_lt y worker_steps && not (acquires y && (worker_holds (first_now x y) || z))) (last_free a b c x y l k)
+second_turn a b c x y l k = ap (λ z. nat_lt y worker_steps && not (would_acquire y && (worker_holds (first_now x y) || z))) (last_free a b c x y l k)
 
 -- whether another holds the lock, for those before the two and for those between them
 held_before : (a b c x y m l : ℕ) → Conditions a b c x y → (worker_holds x || worker_holds y) ≡ (worker_holds x || list_any worker_holds (replicate m b ++ (y ∷ replicate l c)))

@@ -3,25 +3,25 @@ use Rattle.std.proofs.Common.{◌≡◌, ◌⊎◌, inl, inr, ℕ, zero, suc, �
 use Rattle.std.specs.List.{list_all, list_any}
 use Rattle.std.proofs.Math.Bool.{or-false, and-false}
 use Rattle.std.proofs.lemmas.Bool.{and_parts, and_from, eqb-true, or_cases, not-true}
-use Rattle.schedule.specs.Rounds.{worker_steps, acquires, worker_holds, goes, turns_taken, worker_entry, steps_after, steps_of_round}
+use Rattle.schedule.specs.Rounds.{worker_steps, would_acquire, worker_holds, goes, turns_taken, worker_entry, steps_after, steps_of_round}
 
 -- where `held` says whether some other worker holds the lock
 abbrev pub rests : Bool → ℕ → Bool
-rests held taken = not (worker_holds taken) && ((taken == worker_steps) || (acquires taken && held))
+rests held taken = not (worker_holds taken) && ((taken == worker_steps) || (would_acquire taken && held))
 
-stays_or : (taken : ℕ) (held : Bool) → ((taken == worker_steps) ≡ true) ⊎ ((acquires taken && held) ≡ true) → (nat_lt taken worker_steps && not (acquires taken && held)) ≡ false
-stays_or taken held (inl done) = subst (λ t. (nat_lt t worker_steps && not (acquires t && held)) ≡ false) (sym (eqb-true taken worker_steps done)) refl
+stays_or : (taken : ℕ) (held : Bool) → ((taken == worker_steps) ≡ true) ⊎ ((would_acquire taken && held) ≡ true) → (nat_lt taken worker_steps && not (would_acquire taken && held)) ≡ false
+stays_or taken held (inl done) = subst (λ t. (nat_lt t worker_steps && not (would_acquire t && held)) ≡ false) (sym (eqb-true taken worker_steps done)) refl
 stays_or taken held (inr waits) = ap (λ b. nat_lt taken worker_steps && not b) waits ∙ and-false (nat_lt taken worker_steps)
 
 -- a resting worker doesn't step
-stays : (taken : ℕ) (held : Bool) → rests held taken ≡ true → (nat_lt taken worker_steps && not (acquires taken && held)) ≡ false
+stays : (taken : ℕ) (held : Bool) → rests held taken ≡ true → (nat_lt taken worker_steps && not (would_acquire taken && held)) ≡ false
 stays taken held e =
-    let p = and_parts (not (worker_holds taken)) ((taken == worker_steps) || (acquires taken && held)) e in
-    stays_or taken held (or_cases (taken == worker_steps) (acquires taken && held) p.1)
+    let p = and_parts (not (worker_holds taken)) ((taken == worker_steps) || (would_acquire taken && held)) e in
+    stays_or taken held (or_cases (taken == worker_steps) (would_acquire taken && held) p.1)
 
 -- nor holds it the lock
 no_holder : (taken : ℕ) (held : Bool) → rests held taken ≡ true → worker_holds taken ≡ false
-no_holder taken held e = not-true (worker_holds taken) (and_parts (not (worker_holds taken)) ((taken == worker_steps) || (acquires taken && held)) e).0
+no_holder taken held e = not-true (worker_holds taken) (and_parts (not (worker_holds taken)) ((taken == worker_steps) || (would_acquire taken && held)) e).0
 
 pub none_holds : (held : Bool) (all behind : List ℕ) → list_all (rests held) all ≡ true → list_any worker_holds (all ++ behind) ≡ list_any worker_holds behind
 none_holds held [] behind e = refl
@@ -33,7 +33,7 @@ none_holds held (t ∷ ts) behind e =
 pub no_turn : (before : Bool) (t : ℕ) (ts behind : List ℕ) (held : Bool) → held ≡ (before || list_any worker_holds behind) → list_all (rests held) (t ∷ ts) ≡ true → goes before t (ts ++ behind) ≡ false
 no_turn before t ts behind held is e =
     let p = and_parts (rests held t) (list_all (rests held) ts) e in
-    ap (λ b. nat_lt t worker_steps && not (acquires t && (before || b))) (none_holds held ts behind p.1) ∙ ap (λ b. nat_lt t worker_steps && not (acquires t && b)) (sym is) ∙ stays t held p.0
+    ap (λ b. nat_lt t worker_steps && not (would_acquire t && (before || b))) (none_holds held ts behind p.1) ∙ ap (λ b. nat_lt t worker_steps && not (would_acquire t && b)) (sym is) ∙ stays t held p.0
 
 still : (before : Bool) (t : ℕ) (held : Bool) → rests held t ≡ true → (before || worker_holds t) ≡ before
 still before t held e = ap (λ b. before || b) (no_holder t held e) ∙ or-false before

@@ -3,7 +3,7 @@ use Rattle.std.proofs.Common.{◌≡◌, ℕ, zero, suc, ◌+◌, ◌*◌, ◌-�
 use Rattle.std.specs.List.{list_any}
 use Rattle.std.proofs.Math.Bool.{and-false}
 use Rattle.std.proofs.lemmas.Bool.{and_parts, not-true, lt-ltb, ne_eqb}
-use Rattle.schedule.specs.Rounds.{worker_steps, acquires, worker_holds, goes, turns_taken, worker_entry, steps_after, steps_of_round, are_done, AreRounds, ended, round}
+use Rattle.schedule.specs.Rounds.{worker_steps, would_acquire, worker_holds, goes, turns_taken, worker_entry, steps_after, steps_of_round, are_done, AreRounds, ended, round}
 use Rattle.schedule.specs.Made.{by_turns, each_once, each_times, handed, handed_on, handed_back, called, several_rounds}
 use Rattle.schedule.proofs.Pairs.{Leads, here, more, joined, all_rounds, first_at, second_at, entries, rest_along, standing, pair_leads}
 
@@ -101,15 +101,15 @@ calls_lead (suc k) call m a b n e number =
     (calls_lead k (suc call) m w b n (omega (arith, e)) number)
 
 -- rounds in which each worker steps
-all_go : (held : Bool) (w n t : ℕ) → acquires t ≡ false → nat_lt t worker_steps ≡ true → (goes held t (replicate n t)) ≡ true
+all_go : (held : Bool) (w n t : ℕ) → would_acquire t ≡ false → nat_lt t worker_steps ≡ true → (goes held t (replicate n t)) ≡ true
 all_go held w n t free left = ap (λ z. nat_lt t worker_steps && not (z && (held || list_any worker_holds (replicate n t)))) free ∙ ap (λ z. z && true) left
 
-after_all : (held : Bool) (n t : ℕ) → acquires t ≡ false → nat_lt t worker_steps ≡ true → steps_after held (replicate n t) ≡ replicate n (t + 1)
+after_all : (held : Bool) (n t : ℕ) → would_acquire t ≡ false → nat_lt t worker_steps ≡ true → steps_after held (replicate n t) ≡ replicate n (t + 1)
 after_all held zero t free left = refl
 after_all held (suc n) t free left =
     ap (λ g. turns_taken g t ∷ steps_after (held || worker_holds (turns_taken g t)) (replicate n t)) (all_go held 0 n t free left) ∙ ap (λ r. (t + 1) ∷ r) (after_all (held || worker_holds (t + 1)) n t free left)
 
-steps_all : (held : Bool) (w n t : ℕ) → acquires t ≡ false → nat_lt t worker_steps ≡ true → steps_of_round held w (replicate n t) ≡ each_once w n
+steps_all : (held : Bool) (w n t : ℕ) → would_acquire t ≡ false → nat_lt t worker_steps ≡ true → steps_of_round held w (replicate n t) ≡ each_once w n
 steps_all held w zero t free left = refl
 steps_all held w (suc n) t free left =
     ap (λ g. worker_entry g w ++ steps_of_round (held || worker_holds (turns_taken g t)) (w + 1) (replicate n t)) (all_go held w n t free left) ∙ ap (λ r. w ∷ r) (steps_all (held || worker_holds (t + 1)) (w + 1) n t free left)
@@ -117,7 +117,7 @@ steps_all held w (suc n) t free left =
 -- in each of so many rounds all may step
 abbrev pub free_along : ℕ → ℕ → Bool
 free_along zero t = true
-free_along (suc k) t = (not (acquires t) && nat_lt t worker_steps) && free_along k (t + 1)
+free_along (suc k) t = (not (would_acquire t) && nat_lt t worker_steps) && free_along k (t + 1)
 
 -- workers that have something left aren't done
 some_left : (n t : ℕ) → nat_lt t worker_steps ≡ true → are_done (replicate (suc n) t) ≡ false
@@ -126,9 +126,9 @@ some_left n t left = ap (λ z. z && are_done (replicate n t)) (ne_eqb t worker_s
 each_round : (k m t : ℕ) → free_along k t ≡ true → Leads (replicate (suc m) t) (each_times k (suc m)) (replicate (suc m) (t + k))
 each_round zero m t e = subst (λ z. Leads (replicate (suc m) t) [] (replicate (suc m) z)) (let i : t ≡ t + 0 = omega arith in i) here
 each_round (suc k) m t e =
-    let p = and_parts (not (acquires t) && nat_lt t worker_steps) (free_along k (t + 1)) e in
-    let q = and_parts (not (acquires t)) (nat_lt t worker_steps) p.0 in
-    let free = not-true (acquires t) q.0 in
+    let p = and_parts (not (would_acquire t) && nat_lt t worker_steps) (free_along k (t + 1)) e in
+    let q = and_parts (not (would_acquire t)) (nat_lt t worker_steps) p.0 in
+    let free = not-true (would_acquire t) q.0 in
     let end = replicate (suc m) (t + suc k) in
     let on = subst (λ z. Leads (replicate (suc m) (t + 1)) (each_times k (suc m)) (replicate (suc m) z)) (let i : (t + 1) + k ≡ t + suc k = omega arith in i) (each_round k m (t + 1) p.1) in
     subst (λ z. Leads (replicate (suc m) t) (z ++ each_times k (suc m)) end) (steps_all false 1 (suc m) t free q.1)
@@ -159,7 +159,7 @@ several n at_least = made (n - 2) (omega (arith, at_least))
 
 -- the rounds of one worker
 alone_goes : (t : ℕ) → t < 106 → goes false t [] ≡ true
-alone_goes t left = ap (λ z. z && not (acquires t && false)) (lt-ltb t 106 left) ∙ ap (λ z. not z) (and-false (acquires t))
+alone_goes t left = ap (λ z. z && not (would_acquire t && false)) (lt-ltb t 106 left) ∙ ap (λ z. not z) (and-false (would_acquire t))
 
 one_alone : (k t : ℕ) → t + k ≡ 106 → AreRounds (t ∷ []) (replicate k 1)
 one_alone zero t e = subst (λ z. AreRounds (z ∷ []) []) (let i : 106 ≡ t = omega (arith, e) in i) (ended refl)

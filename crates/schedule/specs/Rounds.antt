@@ -23,8 +23,8 @@ abbrev pub release_of : ℕ → ℕ
 release_of call = 13 + 13 * call
 
 -- whether a worker that has taken so many steps would take the lock with the next
-abbrev pub acquires : ℕ → Bool
-acquires taken = list_any (λ call. acquire_of call == taken + 1) calls
+abbrev pub would_acquire : ℕ → Bool
+would_acquire taken = list_any (λ call. acquire_of call == taken + 1) calls
 
 -- whether a worker that has taken so many steps holds the lock
 abbrev pub worker_holds : ℕ → Bool
@@ -33,7 +33,7 @@ worker_holds taken = list_any (λ call. nat_le (acquire_of call) taken && nat_lt
 -- whether a worker steps in its turn, where `held` says whether one before it holds the lock, and those behind it have taken so many steps:
 -- it isn't done, and doesn't wait for the lock that another holds
 abbrev pub goes : Bool → ℕ → List ℕ → Bool
-goes held taken behind = nat_lt taken worker_steps && not (acquires taken && (held || list_any worker_holds behind))
+goes held taken behind = nat_lt taken worker_steps && not (would_acquire taken && (held || list_any worker_holds behind))
 
 -- how many steps a worker has taken after its turn
 abbrev pub turns_taken : Bool → ℕ → ℕ

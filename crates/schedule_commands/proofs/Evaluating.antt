@@ -8,7 +8,7 @@ use Rattle.replay.specs.Plain.{Plain, plain_of}
 use Rattle.replay.specs.Answers.{Answer, Gives, Fails, Blocked, Short, Deep}
 use Rattle.replay.specs.Evaluation.{most_number, evaluate}
 use Rattle.replay.specs.Calls.{Asked, EvaluationAgrees}
-use Rattle.replay.specs.Records.{Told, IsTold, AreCallsTold, HasNoDeep, IsTooDeep}
+use Rattle.replay.specs.Records.{Told, IsTold, AreCallsTold, HasNoDeep, IsFirstTooDeep}
 use Rattle.replay.proofs.Neat.{neat_of}
 use Rattle.replay.proofs.Schedules.{call_replayed}
 use Rattle.state.specs.declared.value.Value.{Value}
@@ -47,7 +47,7 @@ are_evaluated P s typed alone short none calls told = record {
 }
 
 -- a call that is too deep is one that is deep
-pub one_deep : (P : Program) (s : List ℕ) (entry : ℕ) → IsTooDeep P s entry → HasDeep P s
+pub one_deep : (P : Program) (s : List ℕ) (entry : ℕ) → IsFirstTooDeep P s entry → HasDeep P s
 one_deep P s entry is = record { place = is.place; steps = is.steps; thread = is.thread; before = is.before; after = is.after; call = is.call; deep = is.deep }
 
 pub deep_or_none : (P : Program) (s : List ℕ) → HasDeep P s → HasNoDeep P s → ⊥

@@ -3,7 +3,7 @@
 use Rattle.std.specs.Prelude.{◌≡◌, ℕ, List, Some, None}
 use Rattle.classes.specs.Table.{TableData, table_of}
 use Rattle.core_program.specs.Core.{Program}
-use Rattle.replay.specs.Records.{Told, HasNoDeep, IsTooDeep}
+use Rattle.replay.specs.Records.{Told, HasNoDeep, IsFirstTooDeep}
 use Rattle.schedule_commands.specs.Evaluated.{AreEvaluated, HasDeep}
 use Rattle.schedule_commands.specs.Lines.{calls_text, too_deep_call_line}
 use Rattle.reduction.specs.SerialSchedules.{IsSerial}
@@ -19,7 +19,7 @@ use Rattle.syntax.specs.Trees.{ProgramTree}
 
 -- the line that refuses the replay of a schedule: the first of its completed outermost atomic calls that has more than 100 frames of its own
 pub data NoReplay (P : Program) (s : List ℕ) : Ending → List ℕ → Type 0 where
-  too_deep : (entry : ℕ) → IsTooDeep P s entry → NoReplay P s ending.CallTooDeep (too_deep_call_line entry)
+  too_deep : (entry : ℕ) → IsFirstTooDeep P s entry → NoReplay P s ending.CallTooDeep (too_deep_call_line entry)
 
 -- What is written for a schedule that runs to this state: a line for each completed outermost atomic call of its written order, which is a
 -- rearrangement that runs to the same state, interrupts no atomic call and leads every thread through the same frames and statuses. Each

@@ -9,7 +9,7 @@ use Rattle.sources.specs.declared.refusal.Ending.{Ending}
 use Rattle.sources.specs.declared.refusal.Ending.TheVariants as ending
 use Rattle.sources.specs.Checking.{IsWellFormedSource}
 use Rattle.state.specs.States.{State, initial}
-use Rattle.report.specs.Schedules.{schedule_form_line, too_long_line, stopped_line, open_line}
+use Rattle.report.specs.Schedules.{schedule_form_line, too_long_line, stopped_line, inside_call_line}
 use Rattle.semantics.specs.Run.{run, open_thread}
 use Rattle.syntax.specs.Trees.{ProgramTree}
 
@@ -26,7 +26,7 @@ pub data NoRun (P : Program) (s : List ℕ) : Ending → List ℕ → Type 0 whe
 -- atomic call at its end
 pub data NoOrder (P : Program) (s : List ℕ) : Ending → List ℕ → Type 0 where
   no_run : {ending : Ending} {line : List ℕ} → NoRun P s ending line → NoOrder P s ending line
-  open_call : (q : State) (t : ℕ) → run P s ≡ Some q → open_thread P q ≡ Some t → NoOrder P s ending.Open (open_line t)
+  open_call : (q : State) (t : ℕ) → run P s ≡ Some q → open_thread P q ≡ Some t → NoOrder P s ending.Open (inside_call_line t)
 
 -- the files are a well-formed source with this tree and this core program, and the text of this schedule
 pub record IsInput (file text : List ℕ) (tree : ProgramTree) (P : Program) (s : List ℕ) : Type 0 where

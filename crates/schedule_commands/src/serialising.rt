@@ -17,7 +17,7 @@ ghost use Rattle.serialise.specs.Rewritten.{IsRewritten, IsRefused};
 ghost use Rattle.sources.specs.Checking.{IsSourceOf};
 ghost use Rattle.sources.specs.Refusals.{IsRight, Tells};
 ghost use Rattle.state.specs.States.{State};
-ghost use Rattle.report.specs.Schedules.{open_line};
+ghost use Rattle.report.specs.Schedules.{inside_call_line};
 ghost use Rattle.report.specs.States.{state_text as state_bytes};
 ghost use Rattle.semantics.specs.Run.{run};
 ghost use Rattle.schedule_commands.specs.Schedules.{NoOrder};
@@ -47,7 +47,7 @@ fn refuse_end(alloc: Global, end: SerialEnd) -> Refusal
 
 /// The refusal of a schedule at whose end this is the least thread inside an atomic call.
 fn refuse_open(alloc: Global, thread: u32) -> Refusal
-    ensures { Tells Ending.Open (open_line thread) result }
+    ensures { Tells Ending.Open (inside_call_line thread) result }
 {
     match open_text(alloc, thread) {
         Ok(line) => Refusal::Line(Ending::Open, line),

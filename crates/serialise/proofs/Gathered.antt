@@ -49,10 +49,10 @@ opened_is es n rises =
     let apart = alone_apart n (filter is_uncommitted us) (each_kept (IsFine n) is_uncommitted us (fine_units es n rises)) (alone_left us (last_units es n rises)) in
     λ i. filter_in_order commits us i ++ (ap by_thread (filter_in_order is_uncommitted us) ∙ by_thread_in_order (filter is_uncommitted us) apart) i
 
-run_marks : {S O : Type 0} (M : System S O) (es : List Entry) (q r : S) (place : ℕ) → Run M q es r → marks (of.entries_from M q place (map (λ e. e.thread) es)) ≡ marks es
+run_marks : {S O : Type 0} (M : System S O) (es : List Entry) (q r : S) (place : ℕ) → Run M q es r → marks (of.system_entries_from M q place (map (λ e. e.thread) es)) ≡ marks es
 run_marks M [] q r place ran = refl
 run_marks M (e ∷ es) q r place ran =
-    ap (λ o. marks (of.entry_then M place e.thread o (λ next. of.entries_from M next (place + 1) (map (λ x. x.thread) es)))) ran.1.steps
+    ap (λ o. marks (of.system_entry_then M place e.thread o (λ next. of.system_entries_from M next (place + 1) (map (λ x. x.thread) es)))) ran.1.steps
     ∙ (λ i. (e.thread, ran.1.inside i) ∷ run_marks M es ran.0 r (place + 1) ran.2 i)
 
 module _ (P : Program) (typed : IsTyped P) (s : List ℕ) (q : State) (ran : run P s ≡ Some q) where

@@ -19,11 +19,11 @@ use Rattle.machine.specs.Reasons.{IsReason}
 use Rattle.machine.specs.Standing.{program_run, StandsFor, IsTurn, IsKindTurn, IsSame, IsStop}
 use Rattle.serialise.specs.declared.calls.Frames.{Frames}
 use Rattle.serialise.specs.Calls.{AreCalls, calls_after, frames_seen, methods_at}
-use Rattle.serialise.specs.Tables.{value_at, put_at}
+use Rattle.serialise.specs.Tables.{value_or, put_at}
 use Rattle.serialise.proofs.AtomicCalls.{calls_moved, inside_is}
 use Rattle.serialise.specs.declared.step.Step.{Step}
 use Rattle.serialise.specs.Entries.{noted_entry, entries_of}
-use Rattle.serialise.specs.Made.{IsMadeStep, IsLeft, HaveRun}
+use Rattle.serialise.specs.Made.{IsMadeStep, IsAfterUntoldStep, HaveRun}
 use Rattle.serialise.specs.NoRun.{refusal}
 use Rattle.serialise.specs.NoRun.{IsNoRun}
 
@@ -63,7 +63,7 @@ told_turn t q m k (HadFaulted f) turn = absurd cc
 told_turn t q m k (Waits a holder) turn = absurd cc
 
 -- a refused step leaves the machine as it was
-pub left_same : (t : ℕ) (old new : MachineValue) (why : StepEnd) → IsSame new old → IsLeft t old new why
+pub left_same : (t : ℕ) (old new : MachineValue) (why : StepEnd) → IsSame new old → IsAfterUntoldStep t old new why
 left_same t old new step.NoMemory same = inl same
 left_same t old new step.Absent same = same
 left_same t old new step.Done same = same
@@ -89,11 +89,11 @@ pub length_more : (steps : List Step) (x : Step) → length (steps ++ x ∷ []) 
 length_more steps x = grind (arith, common_steps)
 
 -- at the start no thread stands in a call
-pub no_calls : (P : Program) → AreCalls P (initial P) (value_at 0 [])
+pub no_calls : (P : Program) → AreCalls P (initial P) (value_or 0 [])
 no_calls P zero = refl
 no_calls P (suc t) = refl
 
-pub starts : (m : MachineValue) → StandsFor m (initial (program_run m)) → HaveRun m [] [] (value_at 0 [])
+pub starts : (m : MachineValue) → StandsFor m (initial (program_run m)) → HaveRun m [] [] (value_or 0 [])
 starts m stands = record { end = initial (program_run m); ran = refl; stands = stands; called = no_calls (program_run m); noted = refl }
 
 entries_append : (n : ℕ) (steps : List Step) (x : Step) → entries_of n (steps ++ x ∷ []) ≡ entries_of n steps ++ noted_entry (n + length steps) x ∷ []

@@ -8,7 +8,7 @@ use Rattle.semantics.specs.Units.{Entry, is_whole, is_commit, units, commit_plac
 use Rattle.reduction.proofs.Shape.{Each, each_more, IsOf, IsFine, each_in_order}
 use Rattle.reduction.proofs.Sorting.{fine_units, each_units}
 use Rattle.serialise.specs.Entries.{entries_of}
-use Rattle.serialise.specs.Tables.{value_at, put_at}
+use Rattle.serialise.specs.Tables.{value_or, put_at}
 use Rattle.serialise.specs.UnitMaps.{UnitMaps, unit_maps, spread}
 use Rattle.serialise.specs.declared.step.Step.{Step}
 use Rattle.serialise.proofs.Found.{size_at, CommitsApart, size_none, units_apart, maps_found}
@@ -318,7 +318,7 @@ own_thread : (n : ℕ) (u : List Entry) → IsFine n u → Each (IsOf (unit_thre
 own_thread n u fine = subst (λ v. Each (IsOf (unit_thread v)) u) (sym fine.is) fine.one
 
 -- a table of these sizes, spread, is the schedule of the units
-threads_are : (k : ℕ) (table : List ℕ) (us : List (List Entry)) → Rising us → Each (IsFine 0) us → Each (λ v. k ≤ unit_thread v) us → ((i : ℕ) → value_at 0 table i ≡ thread_size us (k + i)) → spread_threads k table ≡ schedule_of us
+threads_are : (k : ℕ) (table : List ℕ) (us : List (List Entry)) → Rising us → Each (IsFine 0) us → Each (λ v. k ≤ unit_thread v) us → ((i : ℕ) → value_or 0 table i ≡ thread_size us (k + i)) → spread_threads k table ≡ schedule_of us
 threads_are k [] [] rising fine low sizes = refl
 threads_are k [] (u ∷ us) rising fine low sizes =
     absurd (
@@ -333,27 +333,27 @@ threads_are k [] (u ∷ us) rising fine low sizes =
     distance (suc m) (suc p) low = let rest = distance m p (omega (arith, low)) in let is = rest.1 in (rest.0, omega (arith, is))
 threads_are k (size ∷ table) us rising fine low sizes = by us rising fine low sizes (λ vs up ok high rest. threads_are (k + 1) table vs up ok high rest)
   where
-    first : (vs : List (List Entry)) → ((i : ℕ) → value_at 0 (size ∷ table) i ≡ thread_size vs (k + i)) → size ≡ thread_size vs k
+    first : (vs : List (List Entry)) → ((i : ℕ) → value_or 0 (size ∷ table) i ≡ thread_size vs (k + i)) → size ≡ thread_size vs k
     first vs given = given 0 ∙ ap (thread_size vs) (no_more k)
       where
         no_more : (n : ℕ) → n + 0 ≡ n
         no_more n = omega arith
 
-    next : (vs : List (List Entry)) → ((i : ℕ) → value_at 0 (size ∷ table) i ≡ thread_size vs (k + i)) → (i : ℕ) → value_at 0 table i ≡ thread_size vs (k + 1 + i)
+    next : (vs : List (List Entry)) → ((i : ℕ) → value_or 0 (size ∷ table) i ≡ thread_size vs (k + i)) → (i : ℕ) → value_or 0 table i ≡ thread_size vs (k + 1 + i)
     next vs given i = given (suc i) ∙ ap (thread_size vs) (one_more k i)
       where
         one_more : (n m : ℕ) → n + suc m ≡ n + 1 + m
         one_more n m = omega arith
 
-    none : (vs : List (List Entry)) → Rising vs → Each (IsFine 0) vs → Each (λ v. k < unit_thread v) vs → ((i : ℕ) → value_at 0 (size ∷ table) i ≡ thread_size vs (k + i))
-        → ((ws : List (List Entry)) → Rising ws → Each (IsFine 0) ws → Each (λ v. k + 1 ≤ unit_thread v) ws → ((i : ℕ) → value_at 0 table i ≡ thread_size ws (k + 1 + i)) → spread_threads (k + 1) table ≡ schedule_of ws)
+    none : (vs : List (List Entry)) → Rising vs → Each (IsFine 0) vs → Each (λ v. k < unit_thread v) vs → ((i : ℕ) → value_or 0 (size ∷ table) i ≡ thread_size vs (k + i))
+        → ((ws : List (List Entry)) → Rising ws → Each (IsFine 0) ws → Each (λ v. k + 1 ≤ unit_thread v) ws → ((i : ℕ) → value_or 0 table i ≡ thread_size ws (k + 1 + i)) → spread_threads (k + 1) table ≡ schedule_of ws)
         → replicate size k ++ spread_threads (k + 1) table ≡ schedule_of vs
     none vs up ok high given rest =
         ap (λ (m : ℕ). replicate m k ++ spread_threads (k + 1) table) (first vs given ∙ no_thread k vs high)
         ∙ rest vs up ok (each_more (λ v. k < unit_thread v) (λ v. k + 1 ≤ unit_thread v) (λ v h. omega (arith, h)) vs high) (next vs given)
 
-    by : (vs : List (List Entry)) → Rising vs → Each (IsFine 0) vs → Each (λ v. k ≤ unit_thread v) vs → ((i : ℕ) → value_at 0 (size ∷ table) i ≡ thread_size vs (k + i))
-        → ((ws : List (List Entry)) → Rising ws → Each (IsFine 0) ws → Each (λ v. k + 1 ≤ unit_thread v) ws → ((i : ℕ) → value_at 0 table i ≡ thread_size ws (k + 1 + i)) → spread_threads (k + 1) table ≡ schedule_of ws)
+    by : (vs : List (List Entry)) → Rising vs → Each (IsFine 0) vs → Each (λ v. k ≤ unit_thread v) vs → ((i : ℕ) → value_or 0 (size ∷ table) i ≡ thread_size vs (k + i))
+        → ((ws : List (List Entry)) → Rising ws → Each (IsFine 0) ws → Each (λ v. k + 1 ≤ unit_thread v) ws → ((i : ℕ) → value_or 0 table i ≡ thread_size ws (k + 1 + i)) → spread_threads (k + 1) table ≡ schedule_of ws)
         → replicate size k ++ spread_threads (k + 1) table ≡ schedule_of vs
     by [] up ok low given rest = none [] tt tt tt given rest
     by (u ∷ vs) up ok low given rest = at (unit_thread u == k) refl
@@ -376,7 +376,7 @@ schedule_append : (us vs : List (List Entry)) → schedule_of (us ++ vs) ≡ sch
 schedule_append [] vs = refl
 schedule_append (u ∷ us) vs = ap (λ s. map (λ (e : Entry). e.thread) u ++ s) (schedule_append us vs) ∙ sym (append_assoc (map (λ (e : Entry). e.thread) u) (schedule_of us) (schedule_of vs))
 
-module _ (steps : List Step) (table : List ℕ) (maps : UnitMaps) (is : maps ≡ unit_maps (entries_of 0 steps)) (sizes : (t : ℕ) → value_at 0 table t ≡ left_sizes maps.sizes 0 steps t) where
+module _ (steps : List Step) (table : List ℕ) (maps : UnitMaps) (is : maps ≡ unit_maps (entries_of 0 steps)) (sizes : (t : ℕ) → value_or 0 table t ≡ left_sizes maps.sizes 0 steps t) where
   abbrev us : List (List Entry)
   us = units (entries_of 0 steps)
 
@@ -389,7 +389,7 @@ module _ (steps : List Step) (table : List ℕ) (maps : UnitMaps) (is : maps ≡
   fine_left : Each (IsFine 0) (in_order (filter is_uncommitted us))
   fine_left = each_in_order (IsFine 0) (filter is_uncommitted us) (each_kept (IsFine 0) is_uncommitted us (fine_run steps))
 
-  table_is : (t : ℕ) → value_at 0 table t ≡ thread_size (by_thread (filter is_uncommitted us)) t
+  table_is : (t : ℕ) → value_or 0 table t ≡ thread_size (by_thread (filter is_uncommitted us)) t
   table_is t =
       sizes t ∙ ap (λ (f : ℕ → ℕ). left_sizes f 0 steps t) found
       ∙ left_same (size_at us) (size_at (filter is_uncommitted us)) 0 steps t (λ p low. size_left 0 steps p us (told_run steps))

@@ -22,9 +22,9 @@ IsMadeStep P t q m step calls _ = ⊥
 
 -- the machine after a thread's step that isn't told, for this reason: it is as it was, or memory was wanting for the note of a
 -- step that it made
-abbrev pub IsLeft : ℕ → MachineValue → MachineValue → StepEnd → Type 0
-IsLeft t old new ends.NoMemory = IsSame new old ⊎ ((q : State) → StandsFor old q → IsTurn t (Ok tt) new q (outcome (program_run old) q t))
-IsLeft t old new _ = IsSame new old
+abbrev pub IsAfterUntoldStep : ℕ → MachineValue → MachineValue → StepEnd → Type 0
+IsAfterUntoldStep t old new ends.NoMemory = IsSame new old ⊎ ((q : State) → StandsFor old q → IsTurn t (Ok tt) new q (outcome (program_run old) q t))
+IsAfterUntoldStep t old new _ = IsSame new old
 
 -- these steps are those of the schedule from the start, the machine stands for the state that it runs to, and these are the
 -- numbers of atomic calls in it

@@ -3,7 +3,7 @@ use Rattle.std.specs.Prelude.{ℕ, ◌+◌, Bool, true, false, List, [], ◌∷�
 use Rattle.semantics.specs.Units.{Entry, is_commit}
 use Rattle.serialise.specs.declared.step.Step.{Step}
 use Rattle.serialise.specs.declared.units.UnitTables.{UnitTables}
-use Rattle.serialise.specs.Tables.{value_at, put_at}
+use Rattle.serialise.specs.Tables.{value_or, put_at}
 
 -- by commit place how many entries the unit has, and by thread the commit place of its first unit, where there is one
 pub record UnitMaps : Type 0 where
@@ -38,7 +38,7 @@ unit_maps (e ∷ es) = with_entry e (unit_maps es)
 
 -- the maps that tables have
 abbrev pub maps_of : UnitTables → UnitMaps
-maps_of tables = record { sizes = value_at 0 tables.sizes.items; firsts = value_at None tables.firsts.items }
+maps_of tables = record { sizes = value_or 0 tables.sizes.items; firsts = value_or None tables.firsts.items }
 
 -- each step's thread, as often as the unit that commits at its place has entries; the first step has this place
 abbrev pub spread : (ℕ → ℕ) → (place : ℕ) → List Step → List ℕ

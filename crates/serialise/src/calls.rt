@@ -6,7 +6,7 @@ ghost use Rattle.state.specs.States.{State};
 ghost use Rattle.semantics.specs.Run.{is_annotated};
 ghost use Rattle.machine.specs.Standing.{StandsFor};
 ghost use Rattle.serialise.specs.Calls.{with_call, without_call, frames_seen, methods_at, is_atomic, calls_after};
-ghost use Rattle.serialise.specs.Tables.{value_at, put_at};
+ghost use Rattle.serialise.specs.Tables.{value_or, put_at};
 
 use crate::tables::{put, value_at};
 use core_program::CoreProgram;
@@ -107,8 +107,8 @@ pub(crate) fn note_calls(
     before: Frames,
     after: Frames,
 ) -> Result<(), NoMemory>
-    ensures noted { OnOk result ((other : ℕ) → value_at 0 calls.new.items other ≡
-        put_at (value_at 0 calls.old.items) thread (calls_after (program_of program.now) before after (value_at 0 calls.old.items thread)) other) }
+    ensures noted { OnOk result ((other : ℕ) → value_or 0 calls.new.items other ≡
+        put_at (value_or 0 calls.old.items) thread (calls_after (program_of program.now) before after (value_or 0 calls.old.items thread)) other) }
     ensures err { OnErr result (calls.new.items ≡ calls.old.items) }
 {
     if before.count == after.count {

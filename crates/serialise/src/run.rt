@@ -8,9 +8,9 @@ ghost use Rattle.semantics.specs.Step.{outcome};
 ghost use Rattle.machine.specs.Reasons.{IsReason};
 ghost use Rattle.machine.specs.Standing.{program_run, StandsFor};
 ghost use Rattle.serialise.specs.Calls.{AreCalls, calls_after, frames_seen, methods_at};
-ghost use Rattle.serialise.specs.Made.{IsMadeStep, IsLeft, HaveRun};
+ghost use Rattle.serialise.specs.Made.{IsMadeStep, IsAfterUntoldStep, HaveRun};
 ghost use Rattle.serialise.specs.NoRun.{IsNoRun};
-ghost use Rattle.serialise.specs.Tables.{value_at, put_at};
+ghost use Rattle.serialise.specs.Tables.{value_or, put_at};
 
 use crate::calls::{Frames, frames_at, note_calls};
 use crate::run_end::{RunEnd, refusal};
@@ -37,10 +37,10 @@ fn note_step(
     kind: StepKind,
     before: Frames,
 ) -> Result<Step, NoMemory>
-    ensures step { IfOk result (λ step. step ≡ record { thread = thread; kind = kind; inside = nat_lt 0 (value_at 0 calls.new.items thread) }) }
-    ensures calls { OnOk result ((q : State) → StandsFor machine.now q → (other : ℕ) → value_at 0 calls.new.items other ≡
-        put_at (value_at 0 calls.old.items) thread
-        (calls_after (program_run machine.now) before (frames_seen (methods_at (slice_get q.threads thread))) (value_at 0 calls.old.items thread)) other) }
+    ensures step { IfOk result (λ step. step ≡ record { thread = thread; kind = kind; inside = nat_lt 0 (value_or 0 calls.new.items thread) }) }
+    ensures calls { OnOk result ((q : State) → StandsFor machine.now q → (other : ℕ) → value_or 0 calls.new.items other ≡
+        put_at (value_or 0 calls.old.items) thread
+        (calls_after (program_run machine.now) before (frames_seen (methods_at (slice_get q.threads thread))) (value_or 0 calls.old.items thread)) other) }
     ensures err { OnErr result (calls.new.items ≡ calls.old.items) }
 {
     let after = frames_at(machine, thread);
@@ -62,10 +62,10 @@ pub fn make_step(
     thread: u32,
 ) -> Result<Step, StepEnd>
     requires room { machine.old.made < 4294967295 }
-    ensures made { IfOk result (λ step. (q : State) → StandsFor machine.old q → AreCalls (program_run machine.old) q (value_at 0 calls.old.items) →
-        IsMadeStep (program_run machine.old) thread q machine.new step (value_at 0 calls.new.items) (outcome (program_run machine.old) q thread)) }
+    ensures made { IfOk result (λ step. (q : State) → StandsFor machine.old q → AreCalls (program_run machine.old) q (value_or 0 calls.old.items) →
+        IsMadeStep (program_run machine.old) thread q machine.new step (value_or 0 calls.new.items) (outcome (program_run machine.old) q thread)) }
     ensures refused { IfErr result (λ why. (q : State) → StandsFor machine.old q → IsReason why (outcome (program_run machine.old) q thread)) }
-    ensures left { IfErr result (IsLeft thread machine.old machine.new) }
+    ensures left { IfErr result (IsAfterUntoldStep thread machine.old machine.new) }
     ensures kept { OnErr result (calls.new.items ≡ calls.old.items) }
     ensures counted { OnOk result (machine.new.made ≡ machine.old.made + 1) }
     ensures program { machine.new.program ≡ machine.old.program }

@@ -2,7 +2,7 @@
 ghost use Rattle.std.specs.Prelude.{◌≡◌, ◌≤◌, ◌++◌, ℕ, length, IfOk, OnOk};
 ghost use Rattle.semantics.specs.Units.{units, schedule_of};
 ghost use Rattle.serialise.specs.Entries.{entries_of};
-ghost use Rattle.serialise.specs.Tables.{value_at};
+ghost use Rattle.serialise.specs.Tables.{value_or};
 ghost use Rattle.serialise.specs.UnitMaps.{maps_of};
 ghost use Rattle.serialise.specs.OpenOrder.{open_units};
 ghost use Rattle.serialise.specs.Spreading.{stays_open, committed_size, left_size, spread_committed, with_left, left_sizes, spread_threads};
@@ -64,7 +64,7 @@ fn spread_committed(
 
 /// Notes the size of a thread's unit that doesn't commit.
 fn note_left(lefts: &mut Vec<u32>, thread: u32, size: u32) -> Result<(), NoMemory>
-    ensures { OnOk result ((other : ℕ) → value_at 0 lefts.new.items other ≡ with_left thread size (value_at 0 lefts.old.items) other) }
+    ensures { OnOk result ((other : ℕ) → value_or 0 lefts.new.items other ≡ with_left thread size (value_or 0 lefts.old.items) other) }
 {
     if size == 0 {
         return Ok(());
@@ -75,7 +75,7 @@ fn note_left(lefts: &mut Vec<u32>, thread: u32, size: u32) -> Result<(), NoMemor
 /// By thread, how many steps its unit has that doesn't commit.
 fn left_sizes(alloc: Global, tables: &UnitTables, steps: &[Step]) -> Result<Vec<u32>, NoMemory>
     requires { length steps.now ≤ 200000 }
-    ensures { IfOk result (λ lefts. (other : ℕ) → value_at 0 lefts.items other ≡ left_sizes (maps_of tables.now).sizes 0 steps.now other) }
+    ensures { IfOk result (λ lefts. (other : ℕ) → value_or 0 lefts.items other ≡ left_sizes (maps_of tables.now).sizes 0 steps.now other) }
 {
     let mut lefts = Vec::new(alloc);
     let mut place = steps.len();

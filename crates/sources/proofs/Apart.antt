@@ -71,7 +71,7 @@ no_source_is_none file _ _ (class_fault tree fault is first) = λ t P s.
     nothing_in fault (subst (λ fs. Contains fs fault) (ap class.all_class_faults same ∙ s.has_core.classes) first.stands)
 no_source_is_none file _ _ (type_fault tree fault is faultless first) = λ t P s.
     let same = same_tree file tree t is s.has_core.program in
-    nothing_in fault (subst (λ fs. Contains fs fault) (ap types.type_faults same ∙ s.has_core.core.faultless) first.stands)
+    nothing_in fault (subst (λ fs. Contains fs fault) (ap types.program_type_faults same ∙ s.has_core.core.faultless) first.stands)
 no_source_is_none file _ _ (crowded tree Q m method core first is) = λ t P s.
     well_formed_first P m s.well_formed (subst (λ R. IsFirstCrowded R m) (same_core file tree t Q P core s.has_core) first)
 

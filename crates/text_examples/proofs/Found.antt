@@ -6,7 +6,7 @@ use Rattle.state.specs.declared.value.Value.{Value}
 use Rattle.state.specs.Memory.{address_cmp}
 use Rattle.semantics.specs.Step.{object_class, target_at}
 use Rattle.replay.specs.Calls.{asked_target}
-use Rattle.replay.specs.Evaluation.{Lower, dispatch}
+use Rattle.replay.specs.Evaluation.{Lower, dispatch_call}
 use Rattle.core_examples.specs.Seen.{here, there, object_of, four_fields}
 use Rattle.text_examples.specs.Plain.{quiet, one_object, one_lock}
 use Rattle.text_examples.specs.Walked.{crossed, each_waits, held_once}
@@ -25,9 +25,9 @@ second_lock = get-from_sorted address_cmp crossed there tt
 
 -- what a call on the object comes to, and which call it is
 pub call_is : (lower : Option Lower) (m : ℕ) (arguments : List Value) →
-    dispatch four_fields 5 lower 7 (target_at four_fields m (object_class (M.get quiet.heap here))) here arguments quiet
-    ≡ dispatch four_fields 5 lower 7 (target_at four_fields m (object_class (Some (object_of 0)))) here arguments quiet
-call_is lower m arguments = ap (λ o. dispatch four_fields 5 lower 7 (target_at four_fields m (object_class o)) here arguments quiet) object_is
+    dispatch_call four_fields 5 lower 7 (target_at four_fields m (object_class (M.get quiet.heap here))) here arguments quiet
+    ≡ dispatch_call four_fields 5 lower 7 (target_at four_fields m (object_class (Some (object_of 0)))) here arguments quiet
+call_is lower m arguments = ap (λ o. dispatch_call four_fields 5 lower 7 (target_at four_fields m (object_class o)) here arguments quiet) object_is
 
 pub asked_is : (arguments : List Value) →
     asked_target here arguments (target_at four_fields 0 (object_class (M.get quiet.heap here))) ≡ asked_target here arguments (target_at four_fields 0 (object_class (Some (object_of 0))))

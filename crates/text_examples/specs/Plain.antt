@@ -61,20 +61,20 @@ abbrev pub evaluated : Option Lower → Expr → Answer Value
 evaluated lower e = expr four_fields 5 lower 7 own_slots e quiet
 
 -- what a statement gives there
-abbrev pub done : Option Lower → Stmt → Answer Ended
-done lower s = stmt four_fields 5 lower 7 s own_slots quiet
+abbrev pub statement_answer : Option Lower → Stmt → Answer Ended
+statement_answer lower s = stmt four_fields 5 lower 7 s own_slots quiet
 
 -- a statement ends so, with these slots
-abbrev pub ended : Ended → Answer Ended
-ended x = Gives x quiet
+abbrev pub ends_so : Ended → Answer Ended
+ends_so x = Gives x quiet
 
 -- an end at which the statement goes on, with these slots
 abbrev pub on : List Value → Ended
 on slots = record { end = GoesOn; slots = slots }
 
 -- an end at which the statement returns this value, with the slots as they were
-abbrev pub returns : Option Value → Ended
-returns v = record { end = Returns v; slots = own_slots }
+abbrev pub returned_end : Option Value → Ended
+returned_end v = record { end = Returns v; slots = own_slots }
 
 -- the thread 5 holds a lock this often
 abbrev pub hold_of : ℕ → Hold
@@ -105,13 +105,13 @@ abbrev pub return_of : Expr → Stmt
 return_of e = ReturnS (Some e)
 
 -- a call on the object
-abbrev pub asks : ℕ → List Value → Option Asked
-asks m arguments = Some (record { on = here; method = m; arguments = arguments })
+abbrev pub asked_of_object : ℕ → List Value → Option Asked
+asked_of_object m arguments = Some (record { on = here; method = m; arguments = arguments })
 
 -- the object and two arguments, the last of them on top; and a frame that calls a method with these
 abbrev pub two_operands : List Value
 two_operands = Int (pos 2) ∷ Int (pos 1) ∷ Ref here ∷ []
 
 -- a frame that calls the method 0 with these operands next
-abbrev pub calling : Frame
-calling = record (frame_with two_operands) { work = Act (Call 0) ∷ [] }
+abbrev pub calling_next : Frame
+calling_next = record (frame_with two_operands) { work = Act (Call 0) ∷ [] }

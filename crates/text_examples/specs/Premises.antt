@@ -66,13 +66,13 @@ abbrev pub leaf_node : Node
 leaf_node = node w.Lit 1 no_nodes
 
 -- the derivation of `synchronized (this) { this.v = 7; }`, and its part and premise
-abbrev pub put_node : Node
-put_node = node w.Put 0 (and_node (node w.This 1 no_nodes) (and_node leaf_node no_nodes))
+abbrev pub sync_put_node : Node
+sync_put_node = node w.Put 0 (and_node (node w.This 1 no_nodes) (and_node leaf_node no_nodes))
 
 -- the derivation of the `synchronized` around it
 abbrev pub sync_node : Node
-sync_node = node w.Sync 0 (and_node put_node no_nodes)
+sync_node = node w.Sync 0 (and_node sync_put_node no_nodes)
 
 -- a part beside its node
-abbrev pub place : Part → Node → PlacedNode
-place part at = record { part = part; at = at }
+abbrev pub part_at_node : Part → Node → PlacedNode
+part_at_node part at = record { part = part; at = at }

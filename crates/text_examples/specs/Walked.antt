@@ -23,7 +23,7 @@ use Rattle.rules.specs.Effect.{held_under}
 use Rattle.core_examples.specs.Bodies.{one_path}
 use Rattle.core_examples.specs.Fields.{path}
 use Rattle.core_examples.specs.Seen.{here, there}
-use Rattle.levels.specs.Walks.{Visit, Comes, Bad}
+use Rattle.levels.specs.Walks.{LevelVisit, Comes, Bad}
 
 -- the type `Buf`
 abbrev pub buf : CoreType
@@ -86,9 +86,9 @@ pub data Seen : Type 0 where
   Takes : (place class under : ℕ) → Seen
 
 -- what is seen of a visit
-abbrev pub seen : Visit → Seen
-seen (Comes m known under) = Calls m under (map (known 0) (this_path ∷ one_path ∷ []) ++ map (known 1) (this_path ∷ one_path ∷ []))
-seen (Bad place class under) = Takes place class under
+abbrev pub seen_of_visit : LevelVisit → Seen
+seen_of_visit (Comes m known under) = Calls m under (map (known 0) (this_path ∷ one_path ∷ []) ++ map (known 1) (this_path ∷ one_path ∷ []))
+seen_of_visit (Bad place class under) = Takes place class under
 
 -- `this.length()` and `this.run()`, and what a walk sees of them where the lock of `this` is held
 abbrev pub length_call : Expr
@@ -119,8 +119,8 @@ abbrev pub held_once : ℕ → Hold
 held_once t = record { holder = t; count = 1 }
 
 -- a thread that takes the lock of this address next
-abbrev pub takes : Address → Thread
-takes a = Running (record { method = 1; slots = []; operands = Ref a ∷ []; work = Act (Acquire EmptyS) ∷ [] } ∷ [])
+abbrev pub takes_lock_next : Address → Thread
+takes_lock_next a = Running (record { method = 1; slots = []; operands = Ref a ∷ []; work = Act (Acquire EmptyS) ∷ [] } ∷ [])
 
 -- the thread 0 holds the lock of the first object and takes that of the second one, and the thread 1 the other way round
 abbrev pub crossed : List (Address × Hold)
@@ -128,4 +128,4 @@ crossed = (here, held_once 0) ∷ (there, held_once 1) ∷ []
 
 -- a state in which each of these two threads waits for the lock that the other one holds
 abbrev pub each_waits : State
-each_waits = record { heap = M.empty; locks = M.from_sorted crossed; threads = takes there ∷ takes here ∷ []; output = [] }
+each_waits = record { heap = M.empty; locks = M.from_sorted crossed; threads = takes_lock_next there ∷ takes_lock_next here ∷ []; output = [] }

@@ -20,7 +20,7 @@ ghost use Rattle.core_examples.specs.Seen.{four_fields};
 ghost use Rattle.core_examples.specs.Bodies.{nothing_held, this_held, one_path, mover_under, with_required, this_relevant, both_relevant, all_movers, by_locks};
 ghost use Rattle.core_examples.specs.Small.{one, two};
 ghost use Rattle.core_examples.specs.Fields.{path};
-ghost use Rattle.text_examples.specs.Premises.{con, mov, ato, two_arguments, two_statements, expressions, statements, mover_under_this, table, leaf_node, put_node, sync_node, place};
+ghost use Rattle.text_examples.specs.Premises.{con, mov, ato, two_arguments, two_statements, expressions, statements, mover_under_this, table, leaf_node, sync_put_node, sync_node, part_at_node};
 
 /// The word of each part.
 pub fn which_words_parts_have()
@@ -38,9 +38,9 @@ pub fn which_parts_parts_have()
 
 /// The places of a derivation, in the order in which its nodes are written; where parts or nodes are missing, there is no place.
 pub fn which_places_derivations_have()
-    ensures leaf { places (ExprP one) leaf_node ≡ place (ExprP one) leaf_node ∷ [] }
-    ensures inner { places (StmtP (SyncS this_path put_seven)) sync_node ≡ place (StmtP (SyncS this_path put_seven)) sync_node ∷ place (StmtP put_seven) put_node
-        ∷ place (ExprP ThisE) (node w.This 1 no_nodes) ∷ place (ExprP (IntE (pos 7))) leaf_node ∷ [] }
+    ensures leaf { places (ExprP one) leaf_node ≡ part_at_node (ExprP one) leaf_node ∷ [] }
+    ensures inner { places (StmtP (SyncS this_path put_seven)) sync_node ≡ part_at_node (StmtP (SyncS this_path put_seven)) sync_node ∷ part_at_node (StmtP put_seven) sync_put_node
+        ∷ part_at_node (ExprP ThisE) (node w.This 1 no_nodes) ∷ part_at_node (ExprP (IntE (pos 7))) leaf_node ∷ [] }
     ensures no_part { places_of [] (and_node leaf_node no_nodes) ≡ [] }
     ensures no_node { places_of (ExprP one ∷ []) no_nodes ≡ [] }
 {}
@@ -119,12 +119,12 @@ pub fn what_nodes_conclude()
     ensures tree { map (tree_value (Some mover_under_this)) (nothing_held ∷ this_held ∷ []) ≡ Atomic ∷ Mover ∷ [] }
     ensures no_tree { tree_value None nothing_held ≡ Const }
     ensures number { map (λ n. table_value table n nothing_held) (0 ∷ 1 ∷ 2 ∷ []) ≡ Atomic ∷ Const ∷ Const ∷ [] }
-    ensures premises { map (λ v. v nothing_held) (conclusions (table_value table) (and_node leaf_node (and_node put_node no_nodes))) ≡ Const ∷ Atomic ∷ [] }
+    ensures premises { map (λ v. v nothing_held) (conclusions (table_value table) (and_node leaf_node (and_node sync_put_node no_nodes))) ≡ Const ∷ Atomic ∷ [] }
     ensures by_number { map (λ n. number_value table n nothing_held) (None ∷ Some 0 ∷ []) ≡ Const ∷ Atomic ∷ [] }
     ensures by_line { map (λ l. line_value table l nothing_held) (None ∷ Some (record { id = 3; number = 0; body = leaf_node }) ∷ []) ≡ Const ∷ Atomic ∷ [] }
     ensures assigned { map (λ m. book_assignment (record { table = table; lines = record { id = 0; number = 1; body = leaf_node } ∷ record { id = 1; number = 0; body = leaf_node } ∷ [] }) m nothing_held) (0 ∷ 1 ∷ 2 ∷ [])
         ≡ Const ∷ Atomic ∷ Const ∷ [] }
-    ensures at_a_place { rule_at four_fields this_relevant (table_value table) all_movers (place (StmtP (SetFieldS ThisE 1 one)) put_node) nothing_held ≡ Atomic }
+    ensures at_a_place { rule_at four_fields this_relevant (table_value table) all_movers (part_at_node (StmtP (SetFieldS ThisE 1 one)) sync_put_node) nothing_held ≡ Atomic }
     ensures trees { tree_numbered None ∷ tree_numbered (Some mover_under_this) ∷ [] ≡ LeafC Const ∷ mover_under_this ∷ [] }
 {}
 

@@ -8,7 +8,7 @@ ghost use Rattle.typing.specs.declared.fault.TypeFault.TheVariants as types;
 ghost use Rattle.report.specs.declared.source_fault.SourceFault.TheVariants as source;
 ghost use Rattle.report.specs.SourceFaults.{source_fault_offset, fault_words, lex_offset_of, class_offset_of, type_offset_of, lex_kind, parse_kind, class_kind, type_kind, refused_line, source_fault_line};
 ghost use Rattle.schedule.specs.declared.reader.SchedFault.TheVariants as schedule;
-ghost use Rattle.report.specs.Schedules.{schedule_fault_line, stopped_line, open_line};
+ghost use Rattle.report.specs.Schedules.{schedule_fault_line, stopped_line, inside_call_line};
 ghost use Rattle.state.specs.declared.value.Fault.TheVariants.{Zero};
 ghost use Rattle.machine.specs.declared.deed.StepEnd.TheVariants as ends;
 ghost use Rattle.sources.specs.Programs.{offset_at, token_offset};
@@ -53,7 +53,7 @@ pub fn how_schedules_are_refused()
         ≡ codes "schedule refused at byte 3: form\n" ∷ codes "schedule refused at byte 4: too long\n" ∷ [] ∷ [] }
     ensures stopped { map (λ why. stopped_line (record { entry = 5; thread = 6; why = why })) (ends.Absent ∷ ends.Done ∷ ends.Faulted Zero ∷ ends.Waits third 7 ∷ [])
         ≡ codes "entry 5: thread 6 is absent\n" ∷ codes "entry 5: thread 6 is done\n" ∷ codes "entry 5: thread 6 is faulted zero\n" ∷ codes "entry 5: thread 6 waits for 1:2 held by 7\n" ∷ [] }
-    ensures open { open_line 3 ≡ codes "thread 3 is inside an atomic call\n" }
+    ensures open { inside_call_line 3 ≡ codes "thread 3 is inside an atomic call\n" }
 {}
 
 /// Lines for certificates and levels.

@@ -2,7 +2,7 @@
 ghost use Rattle.std.specs.Prelude.{◌≡◌, [], ◌∷◌, map, codes};
 ghost use Rattle.algebra.specs.declared.basic.Basic.TheVariants.{Const, Mover, Atomic, Cmpd, Error};
 ghost use Rattle.conditions.specs.Conditions.{LeafC, TestC};
-ghost use Rattle.report.specs.Verdicts.{title_text, slot_text, field_text, fields_text, path_text, condition_text, atomicity_line, broken_line};
+ghost use Rattle.report.specs.Verdicts.{title_text, slot_text, field_text, fields_text, method_path_text, condition_text, atomicity_line, broken_line};
 ghost use Rattle.text_examples.specs.Names.{names, path};
 
 /// Methods, slots, fields and paths by their names. What the table hasn't is written as nothing.
@@ -12,7 +12,7 @@ pub fn how_names_are_written()
     ensures fields { map (field_text names) (0 ∷ 1 ∷ 2 ∷ []) ≡ codes "v" ∷ codes "c" ∷ [] ∷ [] }
     ensures chain { fields_text names (1 ∷ 0 ∷ []) ≡ codes ".c.v" }
     ensures no_fields { fields_text names [] ≡ [] }
-    ensures path { path_text names 0 (path 1 (0 ∷ [])) ≡ codes "to.v" }
+    ensures path { method_path_text names 0 (path 1 (0 ∷ [])) ≡ codes "to.v" }
 {}
 
 /// A tree is a basic, or `path ? X : Y`; a branch that is a test stands in parentheses.

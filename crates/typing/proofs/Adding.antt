@@ -12,7 +12,7 @@ use Rattle.typing.specs.Classes.{inherited_count}
 use Rattle.typing.specs.Entries.{HasEntry, HaveEntries, AllHaveEntries, method_after, fields_after, methods_after}
 use Rattle.typing.specs.Gathered.{appended, with_core_field, with_method, index_after}
 use Rattle.typing.specs.Noted.{type_noted}
-use Rattle.typing.specs.Programs.{all_there, guard_tree_path, field_node, method_core, fields_core, methods_core, member_type_faults, type_faults_from, all_core_fields, all_methods}
+use Rattle.typing.specs.Programs.{all_there, guard_tree_path, field_node, method_core, fields_core, methods_core, member_type_faults, type_faults_from, all_core_fields, all_core_methods}
 use Rattle.typing.proofs.Gathering.{appended_more, appended_assoc, all_there_append}
 use Rattle.typing.proofs.Noting.{noted_append}
 
@@ -88,18 +88,18 @@ module _ (t : TableData) where
 
   pub class_methods_step : (cs : List Class) (place k after : ℕ) (c : Class) (methods next whole : Option (List Method))
       → place < length cs → c ≡ get_or cs place c
-      → appended methods (all_there (all_methods t k (map class_of (drop place cs)))) ≡ whole
+      → appended methods (all_there (all_core_methods t k (map class_of (drop place cs)))) ≡ whole
       → next ≡ appended methods (all_there (methods_core t k (map member_of c.members.items)))
       → after ≡ k + 1
-      → appended next (all_there (all_methods t after (map class_of (drop (place + 1) cs)))) ≡ whole
+      → appended next (all_there (all_core_methods t after (map class_of (drop (place + 1) cs)))) ≡ whole
   class_methods_step cs place k after c methods next whole within at so is counted =
       let others = map class_of (drop (place + 1) cs) in
       let own = methods_core t k (map member_of c.members.items) in
-      ap (λ n. appended n (all_there (all_methods t after others))) is
-      ∙ ap (λ z. appended (appended methods (all_there own)) (all_there (all_methods t z others))) counted
-      ∙ appended_assoc methods (all_there own) (all_there (all_methods t (k + 1) others))
-      ∙ ap (appended methods) (sym (all_there_append own (all_methods t (k + 1) others)))
-      ∙ ap (λ z. appended methods (all_there (all_methods t k (map class_of z)))) (sym (next_drop cs place c within at))
+      ap (λ n. appended n (all_there (all_core_methods t after others))) is
+      ∙ ap (λ z. appended (appended methods (all_there own)) (all_there (all_core_methods t z others))) counted
+      ∙ appended_assoc methods (all_there own) (all_there (all_core_methods t (k + 1) others))
+      ∙ ap (appended methods) (sym (all_there_append own (all_core_methods t (k + 1) others)))
+      ∙ ap (λ z. appended methods (all_there (all_core_methods t k (map class_of z)))) (sym (next_drop cs place c within at))
       ∙ so
 
   pub class_fault : (cs : List Class) (place k after : ℕ) (c : Class) (found next whole : Option TypeFault)

@@ -24,7 +24,7 @@ use Rattle.classes.specs.Lines.{ancestors}
 use Rattle.classes.proofs.Faultless.{IsFaultless}
 use Rattle.classes.specs.Table.{ClassData, MethodData, class_number, above_in_table, class_and_ancestors, is_of_kind, field_in, own_field, field_number, number_of_own_method, own_method, method_number, first_found}
 use Rattle.classes.specs.Seen.{FieldData}
-use Rattle.typing.specs.Rules.{field_named, numbered_field, method_named, numbered_method, parameter_types, own_fields, types_of_finals, final_types, own_fields_of}
+use Rattle.typing.specs.Rules.{field_of_class, numbered_field, method_named, numbered_method, declared_parameter_types, own_fields, types_of_finals, final_types, own_fields_of}
 use Rattle.typing.specs.Classes.{own_field_numbers, is_final_in, inherited_count, class_core, class_of_number}
 use Rattle.typing.specs.Order.{IsLined}
 use Rattle.typing.specs.Programs.{field_node, guard_tree_path}
@@ -276,7 +276,7 @@ module _ (tree : ProgramTree) (P : Program) (b : IsBuilt tree P) where
             nothing zero = refl
             nothing (suc n) = refl
 
-    pub fields_agree : (c : ℕ) (name : List ℕ) (f : ℕ × FieldData) → field_named (the_table tree) c name ≡ Some f → IsFieldOf P c f
+    pub fields_agree : (c : ℕ) (name : List ℕ) (f : ℕ × FieldData) → field_of_class (the_table tree) c name ≡ Some f → IsFieldOf P c f
     fields_agree c name f h =
         let n = then_parts (numbered_field (the_table tree)) (field_number (the_table tree) c name) f h in
         let d = map_of (λ d. (n.0, d)) (slice_get (the_table tree).fields n.0) f n.2 in
@@ -318,6 +318,6 @@ module _ (tree : ProgramTree) (P : Program) (b : IsBuilt tree P) where
           method = is.method;
           is = is.is;
           of_class = ap (is_kind_of P c) (ap (λ z. z.class) (sym is.node) ∙ ap (λ z. z.class) x.2) ∙ kinds_same c found.method.class ∙ found.kind;
-          params = ap typing.parameter_types (sym is.node) ∙ params_alike (the_table tree).names x.0.method.params ∙ ap parameter_types data_is;
+          params = ap typing.parameter_types (sym is.node) ∙ params_alike (the_table tree).names x.0.method.params ∙ ap declared_parameter_types data_is;
           result = ap (λ z. z.result) (sym is.node) ∙ ap (λ z. z.returns) data_is;
         })

@@ -7,27 +7,27 @@ use Rattle.classes.specs.Table.{TableData, table_of}
 use Rattle.typing.specs.declared.fault.TypeFault.{TypeFault}
 use Rattle.typing.specs.declared.fault.TypeFault.TheVariants.{NoMemory as OutOfMemory}
 use Rattle.typing.specs.Noted.{type_noted}
-use Rattle.typing.specs.Programs.{IsFirstTypeFault, IsCoreOf, type_faults, type_faults_from, program_node, all_there, all_core_fields, all_methods}
+use Rattle.typing.specs.Programs.{IsFirstTypeFault, IsCoreOf, program_type_faults, type_faults_from, program_node, all_there, all_core_fields, all_core_methods}
 use Rattle.typing.specs.Rulings.{both}
 use Rattle.typing.proofs.Complete.{one_core, program_there}
 use Rattle.typing.proofs.FirstFaults.{first_is, none_is, no_first, one_first}
 
 -- what was found in a program whose classes these are, with this table
 pub record Found (tree : ProgramTree) (found : Option TypeFault) (fields : Option (List Field)) (methods : Option (List Method)) : Type 0 where
-  pub first : found ≡ type_noted None (type_faults tree)
+  pub first : found ≡ type_noted None (program_type_faults tree)
   pub fields_are : fields ≡ all_there (all_core_fields (table_of tree) 0 tree)
-  pub methods_are : methods ≡ all_there (all_methods (table_of tree) 0 tree)
+  pub methods_are : methods ≡ all_there (all_core_methods (table_of tree) 0 tree)
 
 pub found_in : (tree classes : ProgramTree) (t : TableData) (found : Option TypeFault) (fields : Option (List Field)) (methods : Option (List Method))
     → classes ≡ tree → t ≡ table_of tree
     → found ≡ type_noted None (type_faults_from t 0 classes)
     → fields ≡ all_there (all_core_fields t 0 classes)
-    → methods ≡ all_there (all_methods t 0 classes)
+    → methods ≡ all_there (all_core_methods t 0 classes)
     → Found tree found fields methods
 found_in tree classes t found fields methods whole table one two three = record {
   first = one ∙ ap (λ z. type_noted None (type_faults_from z 0 classes)) table ∙ ap (λ z. type_noted None (type_faults_from (table_of tree) 0 z)) whole;
   fields_are = two ∙ ap (λ z. all_there (all_core_fields z 0 classes)) table ∙ ap (λ z. all_there (all_core_fields (table_of tree) 0 z)) whole;
-  methods_are = three ∙ ap (λ z. all_there (all_methods z 0 classes)) table ∙ ap (λ z. all_there (all_methods (table_of tree) 0 z)) whole;
+  methods_are = three ∙ ap (λ z. all_there (all_core_methods z 0 classes)) table ∙ ap (λ z. all_there (all_core_methods (table_of tree) 0 z)) whole;
 }
 
 pub told : (tree : ProgramTree) (f : TypeFault) (fields : Option (List Field)) (methods : Option (List Method)) → Found tree (Some f) fields methods → IsFirstTypeFault tree f

@@ -20,7 +20,7 @@ use Rattle.classes.specs.Table.{TableData, type_of, param_of, table_of}
 use Rattle.typing.specs.Rulings.{gain, both}
 use Rattle.typing.specs.Locks.{lock_rule}
 use Rattle.typing.specs.Stmts.{block_core}
-use Rattle.typing.specs.Programs.{all_there, guard_tree_path, field_node, method_scope, method_result, method_node, all_core_fields, all_methods, main_class, main_method, program_node, core_of}
+use Rattle.typing.specs.Programs.{all_there, guard_tree_path, field_node, method_scope, method_result, method_node, all_core_fields, all_core_methods, main_class, main_method, program_node, core_of}
 use Rattle.typing.specs.Classes.{is_final_in, inherited_count, all_classes}
 use Rattle.typing.proofs.Inversions.{both_of, map_of}
 use Rattle.classes.proofs.Parts.{Each, nothing_at, mapped_at, before_mapped}
@@ -39,11 +39,11 @@ pub record IsBuilt (tree : ProgramTree) (P : Program) : Type 0 where
 pub built : (tree : ProgramTree) (P : Program) → core_of tree ≡ Some P → IsBuilt tree P
 built tree P h =
     let t = table_of tree in
-    let p = map_of (program_node t) (both (all_there (all_core_fields t 0 tree)) (all_there (all_methods t 0 tree))) P h in
-    let q = both_of (all_there (all_core_fields t 0 tree)) (all_there (all_methods t 0 tree)) p.0 p.1 in
+    let p = map_of (program_node t) (both (all_there (all_core_fields t 0 tree)) (all_there (all_core_methods t 0 tree))) P h in
+    let q = both_of (all_there (all_core_fields t 0 tree)) (all_there (all_core_methods t 0 tree)) p.0 p.1 in
     subst (IsBuilt tree) p.2 (record {
       fields = sym (field_cores t 0 tree) ∙ there_are (all_core_fields t 0 tree) p.0.0 q.0;
-      methods = sym (method_cores t 0 tree) ∙ there_are (all_methods t 0 tree) p.0.1 q.1;
+      methods = sym (method_cores t 0 tree) ∙ there_are (all_core_methods t 0 tree) p.0.1 q.1;
       classes = refl;
       main_class_is = refl;
       main_is = refl;

@@ -17,7 +17,7 @@ use Rattle.typing.specs.Locks.{lock_rule}
 use Rattle.typing.specs.Completion.{completes, locals_in}
 use Rattle.typing.specs.Stmts.{condition_rule, local_rule, too_many, set_rule, target_rule, put_rule, field_target, do_rule, if_node, return_rule, value_rule, print_rule, start_rule, unreachable, scope_after, stmt_core, block_core, stmt_faults, block_faults}
 use Rattle.typing.specs.Classes.{inherited_count}
-use Rattle.typing.specs.Programs.{all_there, method_scope, method_result, method_faults, method_node, method_core, guard_faults, guard_tree_path, member_type_faults, type_faults_from, fields_core, methods_core, all_core_fields, all_methods, program_node, type_faults, core_of, IsCoreOf}
+use Rattle.typing.specs.Programs.{all_there, method_scope, method_result, method_faults, method_node, method_core, guard_faults, guard_tree_path, member_type_faults, type_faults_from, fields_core, methods_core, all_core_fields, all_core_methods, program_node, program_type_faults, core_of, IsCoreOf}
 use Rattle.typing.specs.declared.fault.TypeFault.{TypeFault}
 use Rattle.typing.specs.Rulings.{gain, loss, ruled, broken, both}
 use Rattle.typing.specs.Scopes.{Scope}
@@ -285,11 +285,11 @@ module _ (t : TableData) where
       all_some_both (fields_core t k (inherited_count t k) c.members) (all_core_fields t (k + 1) cs)
       (fields_there k (inherited_count t k) c.members (front_empty own _ h)) (all_fields_there (k + 1) cs (back_empty own _ h))
 
-  pub all_methods_there : (k : ℕ) (cs : ProgramTree) → type_faults_from t k cs ≡ [] → AllSome (all_methods t k cs)
+  pub all_methods_there : (k : ℕ) (cs : ProgramTree) → type_faults_from t k cs ≡ [] → AllSome (all_core_methods t k cs)
   all_methods_there k [] h = tt
   all_methods_there k (c ∷ cs) h =
       let own = flat_map (member_type_faults t k) c.members in
-      all_some_both (methods_core t k c.members) (all_methods t (k + 1) cs)
+      all_some_both (methods_core t k c.members) (all_core_methods t (k + 1) cs)
       (methods_there k c.members (front_empty own _ h)) (all_methods_there (k + 1) cs (back_empty own _ h))
 
 -- ---- programs
@@ -299,14 +299,14 @@ there (Some a) h = (a, refl)
 there None h = absurd (false≢true h)
 
 -- a program without faults has a core program
-pub program_there : (tree : ProgramTree) → type_faults tree ≡ [] → (P : Program) × (core_of tree ≡ Some P)
+pub program_there : (tree : ProgramTree) → program_type_faults tree ≡ [] → (P : Program) × (core_of tree ≡ Some P)
 program_there tree h =
     let t = table_of tree in
     there (core_of tree)
-    (mapped_some (program_node t) (both (all_there (all_core_fields t 0 tree)) (all_there (all_methods t 0 tree)))
-    (both_some (all_there (all_core_fields t 0 tree)) (all_there (all_methods t 0 tree))
+    (mapped_some (program_node t) (both (all_there (all_core_fields t 0 tree)) (all_there (all_core_methods t 0 tree)))
+    (both_some (all_there (all_core_fields t 0 tree)) (all_there (all_core_methods t 0 tree))
     (all_there_some (all_core_fields t 0 tree) (all_fields_there t 0 tree h))
-    (all_there_some (all_methods t 0 tree) (all_methods_there t 0 tree h))))
+    (all_there_some (all_core_methods t 0 tree) (all_methods_there t 0 tree h))))
 
 -- one without faults has exactly one
 pub one_core : (tree : ProgramTree) (P Q : Program) → IsCoreOf tree P → IsCoreOf tree Q → P ≡ Q

@@ -6,7 +6,7 @@ use Rattle.syntax.specs.Trees.{ProgramTree}
 use Rattle.typing.specs.declared.fault.TypeFault.{TypeFault}
 use Rattle.typing.specs.declared.fault.TypeFault.TheVariants as kind
 use Rattle.typing.specs.Faults.{type_fault_place}
-use Rattle.typing.specs.Programs.{type_faults, IsFirstTypeFault}
+use Rattle.typing.specs.Programs.{program_type_faults, IsFirstTypeFault}
 use Rattle.typing.specs.Noted.{type_noted}
 
 -- the fault that stands at a place
@@ -27,18 +27,18 @@ fault_again (kind.TooManyLocals at) = refl
 fault_again (kind.Redeclared at) = refl
 fault_again kind.NoMemory = refl
 
-pub first_is : (tree : ProgramTree) (f : TypeFault) → type_noted None (type_faults tree) ≡ Some f → IsFirstTypeFault tree f
-first_is tree f is = first.first_is type_fault_place (type_faults tree) f is
+pub first_is : (tree : ProgramTree) (f : TypeFault) → type_noted None (program_type_faults tree) ≡ Some f → IsFirstTypeFault tree f
+first_is tree f is = first.first_is type_fault_place (program_type_faults tree) f is
 
-pub none_is : (tree : ProgramTree) → type_noted None (type_faults tree) ≡ None → type_faults tree ≡ []
-none_is tree is = first.none_is type_fault_place (type_faults tree) is
+pub none_is : (tree : ProgramTree) → type_noted None (program_type_faults tree) ≡ None → program_type_faults tree ≡ []
+none_is tree is = first.none_is type_fault_place (program_type_faults tree) is
 
 pub one_first : (tree : ProgramTree) (f g : TypeFault) → IsFirstTypeFault tree f → IsFirstTypeFault tree g → f ≡ g
-one_first tree f g h k = first.one_first type_fault_place fault_at fault_again (type_faults tree) f g h k
+one_first tree f g h k = first.one_first type_fault_place fault_at fault_again (program_type_faults tree) f g h k
 
-pub no_first : (tree : ProgramTree) (f : TypeFault) → type_faults tree ≡ [] → IsFirstTypeFault tree f → ⊥
-no_first tree f none h = first.no_first type_fault_place (type_faults tree) f none h
+pub no_first : (tree : ProgramTree) (f : TypeFault) → program_type_faults tree ≡ [] → IsFirstTypeFault tree f → ⊥
+no_first tree f none h = first.no_first type_fault_place (program_type_faults tree) f none h
 
 -- a program with faults has a first one
-pub some_first : (tree : ProgramTree) → (type_faults tree ≡ [] → ⊥) → (f : TypeFault) × IsFirstTypeFault tree f
-some_first tree some = first.some_first type_fault_place (type_faults tree) some
+pub some_first : (tree : ProgramTree) → (program_type_faults tree ≡ [] → ⊥) → (f : TypeFault) × IsFirstTypeFault tree f
+some_first tree some = first.some_first type_fault_place (program_type_faults tree) some

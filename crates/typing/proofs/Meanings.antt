@@ -28,7 +28,7 @@ use Rattle.classes.specs.Table.{TableData, ClassData, type_of, field_in, own_fie
 use Rattle.typing.specs.declared.fault.TypeFault.TheVariants.{UnknownName, NotALock}
 use Rattle.typing.specs.Rulings.{gain, demand, then_rule}
 use Rattle.typing.specs.Scopes.{variable, this_variable, scope_of_parameters}
-use Rattle.typing.specs.Rules.{object_class, field_named, numbered_field}
+use Rattle.typing.specs.Rules.{class_of_core_type, field_of_class, numbered_field}
 use Rattle.typing.specs.Locks.{Reach, reach_of, one_field_further, lock_field, path_along, lock_end, root_rule, lock_rule}
 use Rattle.typing.specs.Classes.{inherited_count}
 use Rattle.base.proofs.Options.{then_parts}
@@ -195,8 +195,8 @@ module _ (tree : ProgramTree) (whole : IsFaultless tree) where
     along_class at [] R S c h is = (c, ap (λ z. z.ty) (same_ok R S h) ∙ is)
     along_class at (n ∷ ns) R S c h is =
         let f = then_of (lock_field t at R n) (λ f. path_along t at (one_field_further R f) ns) S h in
-        let d = then_of (ok_or (object_class R.ty) (NotALock at)) (λ c. ok_or (field_named t c n.text) (UnknownName n.at)) f.0 f.1 in
-        (d.0, class_in_of R.ty d.0 (ok_or_of (object_class R.ty) (NotALock at) d.0 d.1))
+        let d = then_of (ok_or (class_of_core_type R.ty) (NotALock at)) (λ c. ok_or (field_of_class t c n.text) (UnknownName n.at)) f.0 f.1 in
+        (d.0, class_in_of R.ty d.0 (ok_or_of (class_of_core_type R.ty) (NotALock at) d.0 d.1))
 
     same_number : (a b : ℕ) → type.Class a ≡ type.Class b → a ≡ b
     same_number a b h = cc
@@ -218,9 +218,9 @@ module _ (tree : ProgramTree) (whole : IsFaultless tree) where
     }
     walk at (n ∷ ns) R S r p c h final_is path ty same class_is =
         let f = then_of (lock_field t at R n) (λ f. path_along t at (one_field_further R f) ns) S h in
-        let d = then_of (ok_or (object_class R.ty) (NotALock at)) (λ c. ok_or (field_named t c n.text) (UnknownName n.at)) f.0 f.1 in
-        let in_class : d.0 ≡ r.class = same_number d.0 r.class (sym (class_in_of R.ty d.0 (ok_or_of (object_class R.ty) (NotALock at) d.0 d.1)) ∙ class_is) in
-        let named = ok_or_of (field_named t d.0 n.text) (UnknownName n.at) f.0 d.2 in
+        let d = then_of (ok_or (class_of_core_type R.ty) (NotALock at)) (λ c. ok_or (field_of_class t c n.text) (UnknownName n.at)) f.0 f.1 in
+        let in_class : d.0 ≡ r.class = same_number d.0 r.class (sym (class_in_of R.ty d.0 (ok_or_of (class_of_core_type R.ty) (NotALock at) d.0 d.1)) ∙ class_is) in
+        let named = ok_or_of (field_of_class t d.0 n.text) (UnknownName n.at) f.0 d.2 in
         let m = then_parts (numbered_field t) (field_number t d.0 n.text) f.0 named in
         let row = map_of (λ x. (m.0, x)) (slice_get t.fields m.0) f.0 m.2 in
         let here = found_along (class_and_ancestors t d.0) n.text m.0 m.1 in

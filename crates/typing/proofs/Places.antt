@@ -15,7 +15,7 @@ use Rattle.classes.specs.Table.{TableData, ClassData, MethodData, type_of, param
 use Rattle.classes.specs.Seen.{FieldData}
 use Rattle.classes.specs.Table as table
 use Rattle.typing.specs.Classes.{inherited_count}
-use Rattle.typing.specs.Programs.{guard_tree_path, field_node, method_core, fields_core, methods_core, all_core_fields, all_methods}
+use Rattle.typing.specs.Programs.{guard_tree_path, field_node, method_core, fields_core, methods_core, all_core_fields, all_core_methods}
 use Rattle.classes.proofs.Parts.{Each, each_both, nothing_at}
 use Rattle.typing.proofs.Parts.{each_along}
 
@@ -121,7 +121,7 @@ own_method_cores t k (FieldM f ∷ ms) = own_method_cores t k ms
 own_method_cores t k (CtorM n params sets ∷ ms) = own_method_cores t k ms
 own_method_cores t k (MethodM m ∷ ms) = ap (λ z. core_method t (method_at k m) ∷ z) (own_method_cores t k ms)
 
-pub method_cores : (t : TableData) (k : ℕ) (cs : ProgramTree) → all_methods t k cs ≡ map (core_method t) (methods_at k cs)
+pub method_cores : (t : TableData) (k : ℕ) (cs : ProgramTree) → all_core_methods t k cs ≡ map (core_method t) (methods_at k cs)
 method_cores t k [] = refl
 method_cores t k (c ∷ cs) =
     ap₂ (λ x y. x ++ y) (own_method_cores t k c.members) (method_cores t (k + 1) cs)

@@ -19,8 +19,8 @@ use Rattle.classes.specs.Seen.{FieldData}
 use Rattle.typing.specs.declared.fault.TypeFault.TheVariants.{UnknownName, NoRule}
 use Rattle.typing.specs.Rulings.{both, demand}
 use Rattle.typing.specs.Scopes.{Scope, variable}
-use Rattle.typing.specs.Completion.{is_true_literal}
-use Rattle.typing.specs.Rules.{TypedData, TypedList, typed, with_argument, is_int, is_boolean, number_rule, variable_typed, not_rule, neg_rule, operator_rule, logical_rule, binary_rule, field_rule, method_rule, get_rule, call_rule, class_rule, new_rule, fit_each, final_types, parameter_types}
+use Rattle.typing.specs.Completion.{is_true_tree}
+use Rattle.typing.specs.Rules.{TypedData, TypedList, typed, with_argument, is_int, is_boolean, number_rule, variable_typed, not_rule, neg_rule, operator_rule, logical_rule, binary_rule, field_rule, method_rule, get_rule, call_rule, class_rule, new_rule, fit_each, final_types, declared_parameter_types}
 use Rattle.typing.specs.Exprs.{elaborated, elaborated_each, variable_rule}
 use Rattle.typing.proofs.Inversions.{same_ok, gain_of, given_of, both_of, demand_of, then_of, ok_or_of, map_of}
 
@@ -106,8 +106,8 @@ module _ (t : TableData) (class : ℕ) (scope : Scope) where
       → IsShape h n b p.0.node → AreShapes k m p.1.nodes → call_rule t name p ≡ Ok d → IsShape (1 + max h k) (1 + (n + m)) false d.node
   call_shape h k n m b name p d x y is =
       let make : ℕ × MethodData → TypedData = λ m. typed (result_type m.1.returns) (core.CallE p.0.node m.0 p.1.nodes) in
-      let o = then_of (method_rule t name p.0.ty) (λ m. demand (fit_each t p.1.types (parameter_types m.1)) (NoRule name.at) (make m)) d is in
-      let q = demand_of (fit_each t p.1.types (parameter_types o.0.1)) (NoRule name.at) (make o.0) d o.2 in
+      let o = then_of (method_rule t name p.0.ty) (λ m. demand (fit_each t p.1.types (declared_parameter_types m.1)) (NoRule name.at) (make m)) d is in
+      let q = demand_of (fit_each t p.1.types (declared_parameter_types o.0.1)) (NoRule name.at) (make o.0) d o.2 in
       subst (λ z. IsShape (1 + max h k) (1 + (n + m)) false z.node) q.1 (record {
         height = omega (arith, max_mono (height_of p.0.node) (highest_of p.1.nodes) h k x.height y.height);
         nodes = omega (arith, x.nodes, y.nodes);
@@ -123,7 +123,7 @@ module _ (t : TableData) (class : ℕ) (scope : Scope) where
       subst (λ z. IsShape (1 + k) (1 + m) false z.node) q.1 (record { height = omega (arith, y.height); nodes = omega (arith, y.nodes); literal = refl })
 
   mutual
-    pub expr_shape : (e : ExprTree) (d : TypedData) → elaborated t class scope e ≡ Some d → IsShape (tree_height.height e) (size e) (is_true_literal e) d.node
+    pub expr_shape : (e : ExprTree) (d : TypedData) → elaborated t class scope e ≡ Some d → IsShape (tree_height.height e) (size e) (is_true_tree e) d.node
     expr_shape (tree.NumberE n at) d h =
         subst (λ z. IsShape 1 1 false z.node) (demand_of _ _ _ d (gain_of (number_rule n at) d h)).1 (record { height = omega arith; nodes = omega arith; literal = refl })
     expr_shape (tree.LeastE at) d h = subst (λ z. IsShape 1 1 false z.node) (same_Some _ d h) (record { height = omega arith; nodes = omega arith; literal = refl })
@@ -151,7 +151,7 @@ module _ (t : TableData) (class : ℕ) (scope : Scope) where
     expr_shape (tree.BinaryE op a b at) d h =
         let g = given_of (binary_rule t op at) (both (elaborated t class scope a) (elaborated t class scope b)) d h in
         let p = both_of (elaborated t class scope a) (elaborated t class scope b) g.0 g.1 in
-        binary_shape (tree_height.height a) (tree_height.height b) (size a) (size b) (is_true_literal a) (is_true_literal b) op at g.0 d
+        binary_shape (tree_height.height a) (tree_height.height b) (size a) (size b) (is_true_tree a) (is_true_tree b) op at g.0 d
         (expr_shape a g.0.0 p.0) (expr_shape b g.0.1 p.1) g.2
     expr_shape (tree.GetE e n) d h =
         let g = given_of (get_rule t n) (elaborated t class scope e) d h in
@@ -163,7 +163,7 @@ module _ (t : TableData) (class : ℕ) (scope : Scope) where
     expr_shape (tree.CallE e n args) d h =
         let g = given_of (call_rule t n) (both (elaborated t class scope e) (elaborated_each t class scope args)) d h in
         let p = both_of (elaborated t class scope e) (elaborated_each t class scope args) g.0 g.1 in
-        call_shape (tree_height.height e) (tree_height.heights args) (size e) (sizes args) (is_true_literal e) n g.0 d
+        call_shape (tree_height.height e) (tree_height.heights args) (size e) (sizes args) (is_true_tree e) n g.0 d
         (expr_shape e g.0.0 p.0) (each_shape args g.0.1 p.1) g.2
     expr_shape (tree.NewE n args at) d h =
         let g = given_of (new_rule t n) (elaborated_each t class scope args) d h in

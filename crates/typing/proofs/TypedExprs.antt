@@ -24,7 +24,7 @@ use Rattle.classes.specs.Seen.{FieldData}
 use Rattle.typing.specs.declared.fault.TypeFault.TheVariants.{UnknownName, NoRule}
 use Rattle.typing.specs.Rulings.{both, demand}
 use Rattle.typing.specs.Scopes.{Scope, variable}
-use Rattle.typing.specs.Rules.{TypedData, TypedList, typed, with_argument, is_int, is_boolean, object_class, receiver_class, number_rule, variable_typed, not_rule, neg_rule, operator_rule, logical_rule, binary_rule, field_named, method_named, field_rule, method_rule, get_rule, call_rule, class_rule, new_rule, fit_each, final_types, parameter_types}
+use Rattle.typing.specs.Rules.{TypedData, TypedList, typed, with_argument, is_int, is_boolean, class_of_core_type, receiver_class, number_rule, variable_typed, not_rule, neg_rule, operator_rule, logical_rule, binary_rule, field_of_class, method_named, field_rule, method_rule, get_rule, call_rule, class_rule, new_rule, fit_each, final_types, declared_parameter_types}
 use Rattle.typing.specs.Exprs.{elaborated, elaborated_each, variable_rule}
 use Rattle.typing.proofs.Inversions.{same_ok, gain_of, given_of, both_of, demand_of, then_of, ok_or_of, map_of}
 
@@ -43,7 +43,7 @@ pub record IsMethodOf (P : Program) (c : ℕ) (m : ℕ × MethodData) : Type 0 w
   pub method : Method
   pub is : slice_get P.methods m.0 ≡ Some method
   pub of_class : is_kind_of P c method.class ≡ true
-  pub params : typing.parameter_types method ≡ parameter_types m.1
+  pub params : typing.parameter_types method ≡ declared_parameter_types m.1
   pub result : method.result ≡ m.1.returns
 
 -- a class is there, with these types of its final fields
@@ -54,7 +54,7 @@ pub record IsMade (P : Program) (c : ℕ) (types : List CoreType) : Type 0 where
 
 -- what the table finds by name is in the core program, where each class is of the kinds that the table tells
 pub record Agrees (t : TableData) (P : Program) : Type 0 where
-  pub fields : (c : ℕ) (name : List ℕ) (f : ℕ × FieldData) → field_named t c name ≡ Some f → IsFieldOf P c f
+  pub fields : (c : ℕ) (name : List ℕ) (f : ℕ × FieldData) → field_of_class t c name ≡ Some f → IsFieldOf P c f
   pub methods : (c : ℕ) (name : List ℕ) (m : ℕ × MethodData) → method_named t c name ≡ Some m → IsMethodOf P c m
   pub classes : (c : ℕ) (name : List ℕ) → class_number t name ≡ Some c → IsMade P c (final_types t c)
   pub kinds : (c d : ℕ) → is_of_kind t c d ≡ true → is_kind_of P c d ≡ true
@@ -81,7 +81,7 @@ is_boolean_of (ValueT (type.Class c)) h = absurd (let e : false ≡ true = h in 
 is_boolean_of NullT h = absurd (let e : false ≡ true = h in cc)
 is_boolean_of VoidT h = absurd (let e : false ≡ true = h in cc)
 
-pub class_in_of : (ty : CoreType) (c : ℕ) → object_class ty ≡ Some c → ty ≡ type.Class c
+pub class_in_of : (ty : CoreType) (c : ℕ) → class_of_core_type ty ≡ Some c → ty ≡ type.Class c
 class_in_of (type.Class d) c h = ap type.Class (same_Some d c h)
 class_in_of type.Int c h = absurd cc
 class_in_of type.Boolean c h = absurd cc
@@ -95,10 +95,10 @@ module _ (t : TableData) (P : Program) (agrees : Agrees t P) where
   -- the field that a name means on a receiver
   pub field_of : (n : Name) (T : NodeType) (f : ℕ × FieldData) → field_rule t n T ≡ Ok f → (c : ℕ) × (T ≡ class_type c) × IsFieldOf P c f
   field_of n T f h =
-      let a = then_of (ok_or (receiver_class T) (NoRule n.at)) (λ c. ok_or (field_named t c n.text) (UnknownName n.at)) f h in (
+      let a = then_of (ok_or (receiver_class T) (NoRule n.at)) (λ c. ok_or (field_of_class t c n.text) (UnknownName n.at)) f h in (
         a.0,
         receiver_of T a.0 (ok_or_of (receiver_class T) (NoRule n.at) a.0 a.1),
-        agrees.fields a.0 n.text f (ok_or_of (field_named t a.0 n.text) (UnknownName n.at) f a.2),
+        agrees.fields a.0 n.text f (ok_or_of (field_of_class t a.0 n.text) (UnknownName n.at) f a.2),
       )
 
   -- the method that a name means on a receiver
@@ -199,15 +199,15 @@ module _ (t : TableData) (P : Program) (agrees : Agrees t P) where
     call_holds : (n : Name) (p : TypedData × TypedList) (d : TypedData) → Holds p.0 → HoldEach p.1.nodes p.1.types → call_rule t n p ≡ Ok d → Holds d
     call_holds n p d h k is =
         let make : ℕ × MethodData → TypedData = λ m. typed (result_type m.1.returns) (core.CallE p.0.node m.0 p.1.nodes) in
-        let m = then_of (method_rule t n p.0.ty) (λ m. demand (fit_each t p.1.types (parameter_types m.1)) (NoRule n.at) (make m)) d is in
-        let q = demand_of (fit_each t p.1.types (parameter_types m.0.1)) (NoRule n.at) (make m.0) d m.2 in
+        let m = then_of (method_rule t n p.0.ty) (λ m. demand (fit_each t p.1.types (declared_parameter_types m.1)) (NoRule n.at) (make m)) d is in
+        let q = demand_of (fit_each t p.1.types (declared_parameter_types m.0.1)) (NoRule n.at) (make m.0) d m.2 in
         let r = method_of n p.0.ty m.0 m.1 in
         let g = r.2 in
         subst Holds q.1 (
           g.method,
           g.is,
           (r.0, subst (HasType P class vars p.0.node) r.1 h, g.of_class),
-          subst (FitEach P class vars p.1.nodes) (sym g.params) (fit_of p.1.nodes p.1.types (parameter_types m.0.1) k q.0),
+          subst (FitEach P class vars p.1.nodes) (sym g.params) (fit_of p.1.nodes p.1.types (declared_parameter_types m.0.1) k q.0),
           ap result_type (sym g.result),
         )
 

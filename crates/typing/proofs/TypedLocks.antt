@@ -20,7 +20,7 @@ use Rattle.classes.specs.Seen.{FieldData}
 use Rattle.typing.specs.declared.fault.TypeFault.TheVariants.{UnknownName, NotALock}
 use Rattle.typing.specs.Rulings.{demand, then_rule}
 use Rattle.typing.specs.Scopes.{Scope, variable, this_variable}
-use Rattle.typing.specs.Rules.{object_class, field_named}
+use Rattle.typing.specs.Rules.{class_of_core_type, field_of_class}
 use Rattle.typing.specs.Locks.{Reach, reach_of, one_field_further, lock_field, path_along, lock_end, root_rule, lock_rule}
 use Rattle.typing.proofs.Inversions.{same_ok, demand_of, then_of, ok_or_of}
 use Rattle.typing.proofs.TypedExprs.{IsFieldOf, Agrees, Seen, class_in_of}
@@ -103,9 +103,9 @@ module _ (t : TableData) (P : Program) (agrees : Agrees t P) (class : ℕ) (vars
   walks_along at r [] s walks h = subst Walks (same_ok r s h) walks
   walks_along at r (n ∷ ns) s walks h =
       let f = then_of (lock_field t at r n) (λ f. path_along t at (one_field_further r f) ns) s h in
-      let c = then_of (ok_or (object_class r.ty) (NotALock at)) (λ c. ok_or (field_named t c n.text) (UnknownName n.at)) f.0 f.1 in
-      let of_class = class_in_of r.ty c.0 (ok_or_of (object_class r.ty) (NotALock at) c.0 c.1) in
-      let is = agrees.fields c.0 n.text f.0 (ok_or_of (field_named t c.0 n.text) (UnknownName n.at) f.0 c.2) in
+      let c = then_of (ok_or (class_of_core_type r.ty) (NotALock at)) (λ c. ok_or (field_of_class t c n.text) (UnknownName n.at)) f.0 f.1 in
+      let of_class = class_in_of r.ty c.0 (ok_or_of (class_of_core_type r.ty) (NotALock at) c.0 c.1) in
+      let is = agrees.fields c.0 n.text f.0 (ok_or_of (field_of_class t c.0 n.text) (UnknownName n.at) f.0 c.2) in
       walks_along at (one_field_further r f.0) ns s (walks_through r c.0 f.0 walks of_class is) f.2
 
   lock_of : (p : PathData) (c : ℕ) → IsWalk p c → IsLock P class vars p

@@ -29,7 +29,7 @@ use Rattle.typing.specs.Scopes.{Binding, Scope, variable}
 use Rattle.typing.specs.Rules.{TypedData, is_int, is_boolean, receiver_class, type_rule, field_rule, fit_rule}
 use Rattle.typing.specs.Locks.{lock_rule}
 use Rattle.typing.specs.Exprs.{elaborated}
-use Rattle.typing.specs.Completion.{completes, completes_each, is_true_literal, locals_in, locals_in_each}
+use Rattle.typing.specs.Completion.{completes, completes_each, is_true_tree, locals_in, locals_in_each}
 use Rattle.typing.specs.Stmts.{local_rule, target_rule, set_rule, field_target, put_rule, do_rule, condition_rule, return_rule, value_rule, print_rule, counts_runnable, is_runnable, start_rule, declared, if_node, scope_after, stmt_core, block_core}
 use Rattle.typing.proofs.Inversions.{same_ok, gain_of, given_of, none_of, both_of, demand_of, then_of, ok_or_of, map_of}
 use Rattle.typing.proofs.TypedExprs.{Agrees, Seen, wider, is_int_of, is_boolean_of, receiver_of, field_of, expr_holds}
@@ -80,7 +80,7 @@ module _ (t : TableData) (P : Program) (agrees : Agrees t P) (class : ℕ) (retu
     -- a condition: boolean, no larger, and the literal `true` or not
     record IsCondition (e : ExprTree) (c : Expr) : Type 0 where
       boolean : HasType P class vars c boolean_type
-      shape : IsShape (tree_height.height e) (size e) (is_true_literal e) c
+      shape : IsShape (tree_height.height e) (size e) (is_true_tree e) c
 
     condition_fine : (e : ExprTree) (at : ℕ) (c : Expr) → ruled (condition_rule at) (elaborated t class scope e) ≡ Some c → IsCondition e c
     condition_fine e at c h =
@@ -89,20 +89,20 @@ module _ (t : TableData) (P : Program) (agrees : Agrees t P) (class : ℕ) (retu
         record {
           boolean = subst (λ z. HasType P class vars z boolean_type) q.1
               (subst (HasType P class vars g.0.node) (is_boolean_of g.0.ty q.0) (expr_holds t P agrees class vars scope seen e g.0 g.1));
-          shape = subst (IsShape (tree_height.height e) (size e) (is_true_literal e)) q.1 (expr_shape t class scope e g.0 g.1);
+          shape = subst (IsShape (tree_height.height e) (size e) (is_true_tree e)) q.1 (expr_shape t class scope e g.0 g.1);
         }
 
     -- a value for a place of this type
     record IsValue (e : ExprTree) (ty : CoreType) (v : Expr) : Type 0 where
       fit : HasFit P class vars v ty
-      shape : IsShape (tree_height.height e) (size e) (is_true_literal e) v
+      shape : IsShape (tree_height.height e) (size e) (is_true_tree e) v
 
     value_fine : (e : ExprTree) (at : ℕ) (ty : CoreType) (d : TypedData) (v : Expr) → elaborated t class scope e ≡ Some d → fit_rule t at ty d ≡ Ok v → IsValue e ty v
     value_fine e at ty d v is h =
         let q = demand_of (fits (is_of_kind t) d.ty (ValueT ty)) (NoRule at) d.node v h in
         record {
           fit = subst (λ z. HasFit P class vars z ty) q.1 (d.ty, expr_holds t P agrees class vars scope seen e d is, fits_more (is_of_kind t) (is_kind_of P) (wider t P agrees class vars) d.ty (ValueT ty) q.0);
-          shape = subst (IsShape (tree_height.height e) (size e) (is_true_literal e)) q.1 (expr_shape t class scope e d is);
+          shape = subst (IsShape (tree_height.height e) (size e) (is_true_tree e)) q.1 (expr_shape t class scope e d is);
         }
 
     local_fine : (before : ℕ) (fin : Bool) (ty : TypeName) (n : Name) (e : ExprTree) (at : ℕ) (s : Stmt)
@@ -174,8 +174,8 @@ module _ (t : TableData) (P : Program) (agrees : Agrees t P) (class : ℕ) (retu
         ) in
         let target_typed : (field : core.Field) × (slice_get P.fields g.0.0.1.0 ≡ Some field) × (field.is_final ≡ false) × IsOf P class vars g.0.0.0 field.class × (field.ty ≡ g.0.0.1.1.ty) =
         subst (λ z. (field : core.Field) × (slice_get P.fields z.1.0 ≡ Some field) × (field.is_final ≡ false) × IsOf P class vars z.0 field.class × (field.ty ≡ z.1.1.ty)) q.1 typed_field in
-        let target_shape : IsShape (tree_height.height e) (size e) (is_true_literal e) g.0.0.0 =
-        subst (λ z. IsShape (tree_height.height e) (size e) (is_true_literal e) z.0) q.1 shape in
+        let target_shape : IsShape (tree_height.height e) (size e) (is_true_tree e) g.0.0.0 =
+        subst (λ z. IsShape (tree_height.height e) (size e) (is_true_tree e) z.0) q.1 shape in
         subst (IsFine scope vars before (tree.SetFieldS e n value at)) (same_ok (core.SetFieldS g.0.0.0 g.0.0.1.0 v.0) s v.2) (record {
           is_typed = (target_typed.0, target_typed.1, target_typed.2, target_typed.3, subst (HasFit P class vars v.0) (sym target_typed.4) k.fit);
           declares = refl;

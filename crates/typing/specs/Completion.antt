@@ -3,10 +3,10 @@ use Rattle.std.specs.Prelude.{ℕ, ◌+◌, Bool, true, false, not, ◌&&◌, �
 use Rattle.syntax.specs.Trees.{ExprTree, TruthE, ParenE, StmtTree, StmtTrees, BlockS, LocalS, IfS, IfElseS, WhileS, SyncS, ReturnS, no_stmts, more_stmts}
 
 -- whether a condition is the literal `true`, in any parentheses
-abbrev pub is_true_literal : ExprTree → Bool
-is_true_literal (TruthE b at) = b
-is_true_literal (ParenE e at) = is_true_literal e
-is_true_literal _ = false
+abbrev pub is_true_tree : ExprTree → Bool
+is_true_tree (TruthE b at) = b
+is_true_tree (ParenE e at) = is_true_tree e
+is_true_tree _ = false
 
 -- Whether a statement can complete, and whether the statements of a block can.
 abbrev mutual
@@ -14,7 +14,7 @@ abbrev mutual
   pub completes : StmtTree → Bool
   completes (BlockS ss at) = completes_each ss
   completes (IfElseS c s u at) = completes s || completes u
-  completes (WhileS c s at) = not (is_true_literal c)
+  completes (WhileS c s at) = not (is_true_tree c)
   completes (SyncS l ss at) = completes_each ss
   completes (ReturnS e at) = false
   completes _ = true

@@ -11,7 +11,7 @@ use Rattle.classes.specs.Seen.{FieldData}
 use Rattle.typing.specs.declared.fault.TypeFault.{TypeFault}
 use Rattle.typing.specs.declared.fault.TypeFault.TheVariants.{UnknownName, NotALock}
 use Rattle.typing.specs.Rulings.{then_rule, demand}
-use Rattle.typing.specs.Rules.{object_class, field_named}
+use Rattle.typing.specs.Rules.{class_of_core_type, field_of_class}
 use Rattle.typing.specs.Scopes.{Scope, variable, this_variable}
 
 -- how far a lock expression leads: its path, none past two fields; whether the root and all fields are final; its type
@@ -31,7 +31,7 @@ one_field_further r f = record { path = extended_some r.path (f.0 ∷ []); is_fi
 -- the field that a name means in a lock whose first token stands at an offset: what stands before has a class type, and its
 -- class has the field, its own or from above
 abbrev pub lock_field : TableData → ℕ → Reach → Name → Result (ℕ × FieldData) TypeFault
-lock_field t at r n = then_rule (ok_or (object_class r.ty) (NotALock at)) (λ c. ok_or (field_named t c n.text) (UnknownName n.at))
+lock_field t at r n = then_rule (ok_or (class_of_core_type r.ty) (NotALock at)) (λ c. ok_or (field_of_class t c n.text) (UnknownName n.at))
 
 -- along the fields of a lock, up to the first name that tells a fault
 abbrev pub path_along : TableData → ℕ → Reach → List Name → Result Reach TypeFault

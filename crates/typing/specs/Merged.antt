@@ -14,12 +14,12 @@ abbrev pub own_pairs : ClassData → List (ℕ × ℕ)
 own_pairs c = map (λ n. (n, n)) (range_with_len c.first_method (length c.method_names))
 
 -- how many of these pairs are of methods that stand before those of the class
-abbrev pub earlier : ClassData → List (ℕ × ℕ) → ℕ
-earlier c pairs = prefix_len (λ p. nat_lt p.0 c.first_method) pairs
+abbrev pub count_of_earlier : ClassData → List (ℕ × ℕ) → ℕ
+count_of_earlier c pairs = prefix_len (λ p. nat_lt p.0 c.first_method) pairs
 
 -- the class's own pairs among those of the class above
 abbrev pub merged : TableData → ClassData → List (ℕ × ℕ) → List (ℕ × ℕ)
-merged t c pairs = map (merged_method t c) (take (earlier c pairs) pairs) ++ (own_pairs c ++ map (merged_method t c) (drop (earlier c pairs) pairs))
+merged t c pairs = map (merged_method t c) (take (count_of_earlier c pairs) pairs) ++ (own_pairs c ++ map (merged_method t c) (drop (count_of_earlier c pairs) pairs))
 
 -- the class's own fields behind those of the class above
 abbrev pub fields_over : ClassData → List ℕ → List ℕ

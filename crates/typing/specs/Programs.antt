@@ -138,9 +138,9 @@ module _ (t : TableData) where
   all_core_fields k (c ∷ cs) = fields_core k (inherited_count t k) c.members ++ all_core_fields (k + 1) cs
 
   -- the core methods of classes, the first of which has the number k
-  abbrev pub all_methods : ℕ → ProgramTree → List (Option Method)
-  all_methods k [] = []
-  all_methods k (c ∷ cs) = methods_core k c.members ++ all_methods (k + 1) cs
+  abbrev pub all_core_methods : ℕ → ProgramTree → List (Option Method)
+  all_core_methods k [] = []
+  all_core_methods k (c ∷ cs) = methods_core k c.members ++ all_core_methods (k + 1) cs
 
   -- the class `Main`
   abbrev pub main_class : ℕ
@@ -161,20 +161,20 @@ module _ (t : TableData) where
   }
 
 -- the type faults of a program without class faults
-abbrev pub type_faults : ProgramTree → List TypeFault
-type_faults tree = type_faults_from (table_of tree) 0 tree
+abbrev pub program_type_faults : ProgramTree → List TypeFault
+program_type_faults tree = type_faults_from (table_of tree) 0 tree
 
 -- the fault of a program's that is told: the first
 abbrev pub IsFirstTypeFault : ProgramTree → TypeFault → Type 0
-IsFirstTypeFault tree f = IsFirstOfFaults type_fault_place (type_faults tree) f
+IsFirstTypeFault tree f = IsFirstOfFaults type_fault_place (program_type_faults tree) f
 
 -- the core program of a program, where each of its parts has a core node
 abbrev pub core_of : ProgramTree → Option Program
 core_of tree =
     let t = table_of tree in
-    option_map (program_node t) (both (all_there (all_core_fields t 0 tree)) (all_there (all_methods t 0 tree)))
+    option_map (program_node t) (both (all_there (all_core_fields t 0 tree)) (all_there (all_core_methods t 0 tree)))
 
 -- the core program of a program without faults
 pub record IsCoreOf (tree : ProgramTree) (P : Program) : Type 0 where
-  pub faultless : type_faults tree ≡ []
+  pub faultless : program_type_faults tree ≡ []
   pub core : core_of tree ≡ Some P

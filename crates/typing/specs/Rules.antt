@@ -46,13 +46,13 @@ is_boolean (ValueT T.Boolean) = true
 is_boolean _ = false
 
 -- the class of an object's type
-abbrev pub object_class : CoreType → Option ℕ
-object_class (T.Class c) = Some c
-object_class _ = None
+abbrev pub class_of_core_type : CoreType → Option ℕ
+class_of_core_type (T.Class c) = Some c
+class_of_core_type _ = None
 
 -- the class of a receiver's type
 abbrev pub receiver_class : NodeType → Option ℕ
-receiver_class (ValueT t) = object_class t
+receiver_class (ValueT t) = class_of_core_type t
 receiver_class _ = None
 
 -- ---- names
@@ -68,8 +68,8 @@ abbrev pub numbered_field : TableData → ℕ → Option (ℕ × FieldData)
 numbered_field t f = option_map (λ d. (f, d)) (slice_get t.fields f)
 
 -- the field of this name in a class, its own or from above
-abbrev pub field_named : TableData → ℕ → List ℕ → Option (ℕ × FieldData)
-field_named t c name = option_and_then (numbered_field t) (field_number t c name)
+abbrev pub field_of_class : TableData → ℕ → List ℕ → Option (ℕ × FieldData)
+field_of_class t c name = option_and_then (numbered_field t) (field_number t c name)
 
 -- a method with its number
 abbrev pub numbered_method : TableData → ℕ → Option (ℕ × MethodData)
@@ -82,7 +82,7 @@ method_named t c name = option_and_then (numbered_method t) (method_number t c n
 -- the field that a name means: the receiver has a class type, and its class has the field, its own or from above
 abbrev pub field_rule : TableData → Name → NodeType → Result (ℕ × FieldData) TypeFault
 field_rule t n receiver =
-    then_rule (ok_or (receiver_class receiver) (NoRule n.at)) (λ c. ok_or (field_named t c n.text) (UnknownName n.at))
+    then_rule (ok_or (receiver_class receiver) (NoRule n.at)) (λ c. ok_or (field_of_class t c n.text) (UnknownName n.at))
 
 -- the method that a name means: the receiver has a class type, and its class has the method, its own or from above
 abbrev pub method_rule : TableData → Name → NodeType → Result (ℕ × MethodData) TypeFault
@@ -158,14 +158,14 @@ fit_each t (a ∷ rest) [] = false
 fit_each t (a ∷ rest) (u ∷ us) = fits (is_of_kind t) a (ValueT u) && fit_each t rest us
 
 -- the types of a method's parameters, in order
-abbrev pub parameter_types : MethodData → List CoreType
-parameter_types m = map (λ p. p.ty) m.params
+abbrev pub declared_parameter_types : MethodData → List CoreType
+declared_parameter_types m = map (λ p. p.ty) m.params
 
 -- a call: as many arguments as parameters, each fits; the result type or void
 abbrev pub call_rule : TableData → Name → TypedData × TypedList → Result TypedData TypeFault
 call_rule t n p =
     then_rule (method_rule t n p.0.ty)
-    (λ m. demand (fit_each t p.1.types (parameter_types m.1)) (NoRule n.at) (typed (result_type m.1.returns) (CallE p.0.node m.0 p.1.nodes)))
+    (λ m. demand (fit_each t p.1.types (declared_parameter_types m.1)) (NoRule n.at) (typed (result_type m.1.returns) (CallE p.0.node m.0 p.1.nodes)))
 
 -- a class's own fields
 abbrev pub own_fields_of : TableData → ClassData → List FieldData
@@ -176,8 +176,8 @@ abbrev pub own_fields : TableData → ℕ → List FieldData
 own_fields t c = unwrap_or (option_map (own_fields_of t) (slice_get t.classes c)) []
 
 -- the fields of the class with this number, its own and those from above, the furthest ancestor's first
-abbrev pub class_fields : TableData → ℕ → List FieldData
-class_fields t c = flat_map (own_fields t) (reverse (class_and_ancestors t c))
+abbrev pub all_fields_of_class : TableData → ℕ → List FieldData
+all_fields_of_class t c = flat_map (own_fields t) (reverse (class_and_ancestors t c))
 
 -- the types of the final ones of these fields, in order
 abbrev pub types_of_finals : List FieldData → List CoreType
@@ -185,7 +185,7 @@ types_of_finals fs = map (λ f. f.ty) (filter (λ f. f.is_final) fs)
 
 -- the types of a class's final fields, in order
 abbrev pub final_types : TableData → ℕ → List CoreType
-final_types t c = types_of_finals (class_fields t c)
+final_types t c = types_of_finals (all_fields_of_class t c)
 
 -- `new`: as many arguments as final fields, those from above first, each fits in order; the class
 abbrev pub new_rule : TableData → Name → TypedList → Result TypedData TypeFault

@@ -43,12 +43,12 @@ abbrev pub types_of : List TypedExpr → List NodeType
 types_of = map (λ e. type_data e.ty)
 
 -- the core nodes of arguments, in order
-abbrev pub nodes_of : List TypedExpr → List CoreExpr
-nodes_of = map (λ e. e.node)
+abbrev pub argument_nodes : List TypedExpr → List CoreExpr
+argument_nodes = map (λ e. e.node)
 
 -- typed arguments as plain data: their types, and their nodes as one list
 abbrev pub typed_list : List TypedExpr → TypedList
-typed_list es = record { types = types_of es; nodes = exprs_from (nodes_of es) }
+typed_list es = record { types = types_of es; nodes = exprs_from (argument_nodes es) }
 
 -- a field that was looked up: its number and its entry in the table
 abbrev pub field_found : FieldId × Bor FieldEntry → ℕ × FieldData

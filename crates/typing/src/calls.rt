@@ -11,7 +11,7 @@ ghost use Rattle.typing.specs.Noted.{type_noted};
 ghost use Rattle.typing.specs.Rulings.{gain, loss, ruled, both};
 ghost use Rattle.typing.specs.Rules.{own_fields_of, own_fields, types_of_finals, final_types, fit_each, method_rule, call_rule, new_rule};
 ghost use Rattle.typing.specs.Fitting.{fit_before};
-ghost use Rattle.typing.specs.Views.{boxed_data, typed_data, typed_list, type_data, types_of, nodes_of, method_found};
+ghost use Rattle.typing.specs.Views.{boxed_data, typed_data, typed_list, type_data, types_of, argument_nodes, method_found};
 
 use crate::fault::TypeFault;
 use crate::first::FirstFault;
@@ -167,7 +167,7 @@ fn fit_class(table: &ClassTable, args: &[TypedExpr], class: ClassId) -> bool
 }
 
 fn nodes_of(alloc: Global, parts: Vec<TypedExpr>) -> Result<Vec<CoreExpr>, NoMemory>
-    ensures { IfOk result (λ nodes. nodes.items ≡ nodes_of parts.items) }
+    ensures { IfOk result (λ nodes. nodes.items ≡ argument_nodes parts.items) }
 {
     parts.into_iter().map(|part| part.node).collect(alloc)
 }

@@ -12,17 +12,17 @@ ghost use Rattle.typing.specs.declared.fault.TypeFault.{TypeFault};
 ghost use Rattle.classes.specs.Table.{table_of};
 ghost use Rattle.typing.specs.Alone.{AreAlone, class_alone};
 ghost use Rattle.typing.specs.Classes.{inherited_count};
-ghost use Rattle.typing.specs.Programs.{type_faults, IsFirstTypeFault, IsCoreOf};
+ghost use Rattle.typing.specs.Programs.{program_type_faults, IsFirstTypeFault, IsCoreOf};
 
 /// A program without faults has exactly one core program.
 pub fn core_program_laws()
-    ensures some { (tree : ProgramTree) → type_faults tree ≡ [] → (P : Program) × IsCoreOf tree P }
+    ensures some { (tree : ProgramTree) → program_type_faults tree ≡ [] → (P : Program) × IsCoreOf tree P }
     ensures one { (tree : ProgramTree) (P Q : Program) → IsCoreOf tree P → IsCoreOf tree Q → P ≡ Q }
 {}
 
 /// A program with faults has exactly one first fault, and no core program.
 pub fn first_fault_laws()
-    ensures some { (tree : ProgramTree) → (type_faults tree ≡ [] → ⊥) → (f : TypeFault) × IsFirstTypeFault tree f }
+    ensures some { (tree : ProgramTree) → (program_type_faults tree ≡ [] → ⊥) → (f : TypeFault) × IsFirstTypeFault tree f }
     ensures one { (tree : ProgramTree) (f g : TypeFault) → IsFirstTypeFault tree f → IsFirstTypeFault tree g → f ≡ g }
     ensures apart { (tree : ProgramTree) (f : TypeFault) (P : Program) → IsFirstTypeFault tree f → IsCoreOf tree P → ⊥ }
 {}

@@ -2,7 +2,7 @@
 
 ghost use Rattle.std.specs.Prelude.{◌≡◌, option_map};
 ghost use Rattle.classes.specs.Views.{table_data};
-ghost use Rattle.typing.specs.Rules.{field_named, method_named};
+ghost use Rattle.typing.specs.Rules.{field_of_class, method_named};
 ghost use Rattle.typing.specs.Views.{field_found, method_found};
 
 use classes::{ClassTable, FieldEntry, MethodEntry};
@@ -14,7 +14,7 @@ pub fn field_named<'t, 'a>(
     class: ClassId,
     name: &str,
 ) -> Option<(FieldId, &'t FieldEntry<'a>)>
-    ensures { option_map field_found result ≡ field_named (table_data table.now) class name.now }
+    ensures { option_map field_found result ≡ field_of_class (table_data table.now) class name.now }
 {
     let id = table.field_named(class, name)?;
     let field = table.fields().get(id.0 as usize)?;

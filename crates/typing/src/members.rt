@@ -10,7 +10,7 @@ ghost use Rattle.syntax.specs.Views.{lock_of, member_of, class_of};
 ghost use Rattle.typing.specs.Entries.{HasEntry, HaveEntries, AllHaveEntries, method_after, fields_after, methods_after};
 ghost use Rattle.typing.specs.Gathered.{appended, with_core_field, with_method, index_after};
 ghost use Rattle.typing.specs.Noted.{type_noted};
-ghost use Rattle.typing.specs.Programs.{all_there, guard_faults, guard_tree_path, member_type_faults, type_faults_from, fields_core, methods_core, all_core_fields, all_methods};
+ghost use Rattle.typing.specs.Programs.{all_there, guard_faults, guard_tree_path, member_type_faults, type_faults_from, fields_core, methods_core, all_core_fields, all_core_methods};
 ghost use Rattle.typing.specs.BodyViews.{fields_data, methods_data};
 ghost use Rattle.std.specs.Prelude.{flat_map};
 ghost use Rattle.typing.specs.Lineages.{lineage_of};
@@ -185,7 +185,7 @@ pub(crate) fn parts_of(
     requires entries { AllHaveEntries (table_data table.now) 0 (map class_of classes.now) 0 0 }
     requires lineages { (c : ℕ) → c < length (table_data table.now).classes → slice_get lineages.now c ≡ Some (lineage_of (table_data table.now) c) }
     ensures fields { IfOk result (λ p. fields_data p ≡ all_there (all_core_fields (table_data table.now) 0 (map class_of classes.now))) }
-    ensures methods { IfOk result (λ p. methods_data p ≡ all_there (all_methods (table_data table.now) 0 (map class_of classes.now))) }
+    ensures methods { IfOk result (λ p. methods_data p ≡ all_there (all_core_methods (table_data table.now) 0 (map class_of classes.now))) }
     ensures fault { OnOk result (first.new ≡ type_noted first.old (type_faults_from (table_data table.now) 0 (map class_of classes.now))) }
 {
     let mut parts = Members {

@@ -7,7 +7,7 @@ ghost use Rattle.core_program.specs.Core.{BlockS};
 ghost use Rattle.core_program.specs.Views as core;
 ghost use Rattle.syntax.specs.Trees as tree;
 ghost use Rattle.syntax.specs.Views.{expr_tree, lock_of, stmt_of, stmts_from};
-ghost use Rattle.typing.specs.Completion.{completes, completes_each, is_true_literal as literal_true, locals_in, locals_in_each};
+ghost use Rattle.typing.specs.Completion.{completes, completes_each, is_true_tree as literal_true, locals_in, locals_in_each};
 ghost use Rattle.typing.specs.Inside.{block_faults_in, block_nodes, core_in, faults_in, scope_in};
 ghost use Rattle.typing.specs.Noted.{type_noted};
 ghost use Rattle.typing.specs.Stmts.{declared_type, unreachable};

@@ -3,7 +3,7 @@
 ghost use Rattle.std.specs.Prelude.{◌≡◌, ◌++◌, map, option_and_then, slice_get, IfOk, OnOk};
 ghost use Rattle.classes.specs.Table.{number_of_own_method};
 ghost use Rattle.classes.specs.Views.{class_data, table_data};
-ghost use Rattle.typing.specs.Merged.{earlier, merged, merged_method, own_pairs};
+ghost use Rattle.typing.specs.Merged.{count_of_earlier, merged, merged_method, own_pairs};
 
 use crate::members::next_number;
 use classes::{ClassEntry, ClassTable};
@@ -61,7 +61,7 @@ fn add_own(class: &ClassEntry, pairs: &mut Vec<(MethodId, MethodId)>) -> Result<
 
 /// How many of these pairs are of methods that stand before those of the class.
 fn count_earlier(class: &ClassEntry, pairs: &[(MethodId, MethodId)]) -> usize
-    ensures { result ≡ earlier (class_data class.now) pairs.now }
+    ensures { result ≡ count_of_earlier (class_data class.now) pairs.now }
 {
     let first = class.first_method();
     pairs.iter().take_while(|pair| pair.0 < first).count()

@@ -5,7 +5,7 @@ ghost use Rattle.classes.specs.Table.{is_of_kind};
 ghost use Rattle.classes.specs.Views.{table_data};
 ghost use Rattle.core_program.specs.declared.types.CoreType.TheVariants as type;
 ghost use Rattle.core_program.specs.Types.{ValueT, fits, type_fits, binary_type};
-ghost use Rattle.typing.specs.Rules.{is_int, is_boolean, receiver_class, object_class};
+ghost use Rattle.typing.specs.Rules.{is_int, is_boolean, receiver_class, class_of_core_type};
 ghost use Rattle.typing.specs.Views.{type_data};
 
 use classes::ClassTable;
@@ -36,7 +36,7 @@ pub struct BoxedExpr {
 
 /// The class of an object's type.
 pub fn class_in(ty: CoreType) -> Option<ClassId>
-    ensures { result ≡ object_class ty }
+    ensures { result ≡ class_of_core_type ty }
 {
     match ty {
         CoreType::Class(class) => Some(class),

@@ -22,7 +22,7 @@ use Rattle.witness.proofs.WalkLemmas.{begun}
 use Rattle.witness.specs.declared.node.Node.{Node}
 use Rattle.witness.specs.declared.search.Search.{Search}
 use Rattle.witness.specs.Tables.{count_at}
-use Rattle.witness.specs.Nodes.{left_at, Covers, HasStepped, IsStart, LeadsTo, IsChild, IsTwin}
+use Rattle.witness.specs.Nodes.{left_at, Covers, HasStepped, IsStart, StepsTo, IsChild, IsTwin}
 use Rattle.witness.specs.Searching.{searched, start_left, IsNode, LeadsIn}
 
 -- Who stands inside an atomic call.
@@ -69,7 +69,7 @@ twin_covers s n m one other twin q busy left h = record {
 }
 
 -- The node behind a step.
-module _ (s : Search) (n next : Node) (t : ℕ) (node : IsNode s n) (to : LeadsTo n t next) where
+module _ (s : Search) (n next : Node) (t : ℕ) (node : IsNode s n) (to : StepsTo n t next) where
   abbrev P : Program
   P = searched s
 

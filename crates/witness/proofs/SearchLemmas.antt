@@ -25,7 +25,7 @@ use Rattle.witness.specs.declared.node.Node.{Node}
 use Rattle.witness.specs.declared.search.Search.{Search}
 use Rattle.witness.specs.Judging.{AreLike, IsGoal, IsJudged, IsJudgedWhole}
 use Rattle.witness.specs.Nodes.{left_at, Covers, IsStart, IsTwin, IsChild}
-use Rattle.witness.specs.Searching.{searched, start_left, IsNode, AreNodes, InSet, Extends, LeadsIn, IsAdded, IsFollowed, IsExpanded, IsFound}
+use Rattle.witness.specs.Searching.{searched, start_left, IsNode, AreNodes, InSet, Extends, LeadsIn, IsNodeAdded, IsFollowed, IsExpanded, IsFound}
 use Rattle.witness.proofs.NodeLemmas.{twin_covers, leads_node, leads_made, leads_in, no_child, start_node, start_covers}
 
 pub same_extends : (nodes : List Node) → Extends nodes nodes
@@ -43,7 +43,7 @@ leads_more s old new n t extends leads q busy left next h allowed may steps = in
 -- A node is added.
 
 -- where a twin is there already
-pub known_added : (s : Search) (nodes : List Node) (n : Node) (room : Bool) → AreNodes s nodes → IsNode s n → ((k : ℕ) × (m : Node) × (slice_get nodes k ≡ Some m) × IsTwin m n) → IsAdded s nodes nodes n room
+pub known_added : (s : Search) (nodes : List Node) (n : Node) (room : Bool) → AreNodes s nodes → IsNode s n → ((k : ℕ) × (m : Node) × (slice_get nodes k ≡ Some m) × IsTwin m n) → IsNodeAdded s nodes nodes n room
 known_added s nodes n room are node twin = record {
   nodes = are;
   extends = same_extends nodes;
@@ -51,7 +51,7 @@ known_added s nodes n room are node twin = record {
 }
 
 -- where there is no room
-pub full_added : (s : Search) (nodes : List Node) (n : Node) (room : Bool) → AreNodes s nodes → room ≡ false → IsAdded s nodes nodes n room
+pub full_added : (s : Search) (nodes : List Node) (n : Node) (room : Bool) → AreNodes s nodes → room ≡ false → IsNodeAdded s nodes nodes n room
 full_added s nodes n room are none = record { nodes = are; extends = same_extends nodes; within = λ is. absurd (let e : false ≡ true = sym none ∙ is in cc) }
 
 -- at the end of the list
@@ -68,8 +68,8 @@ one_more s nodes n are node few = record {
   ];
 }
 
-pub new_added : (s : Search) (nodes new : List Node) (n : Node) (room : Bool) → new ≡ nodes ++ n ∷ [] → AreNodes s nodes → IsNode s n → n.machine.made ≤ length nodes → IsAdded s nodes new n room
-new_added s nodes new n room is are node few = subst (λ xs. IsAdded s nodes xs n room) (sym is) (record {
+pub new_added : (s : Search) (nodes new : List Node) (n : Node) (room : Bool) → new ≡ nodes ++ n ∷ [] → AreNodes s nodes → IsNode s n → n.machine.made ≤ length nodes → IsNodeAdded s nodes new n room
+new_added s nodes new n room is are node few = subst (λ xs. IsNodeAdded s nodes xs n room) (sym is) (record {
   nodes = one_more s nodes n are node few;
   extends = λ k m there. at_left nodes (n ∷ []) k m there;
   within = λ room_is q busy left h. (length nodes, n, get_last nodes n, h);
@@ -121,7 +121,7 @@ module _ (s : Search) (nodes : List Node) (n : Node) (place t : ℕ) (here : sli
       let within = slice_get_within nodes place n here in
       omega (arith, made, few, within)
 
-  pub child_followed : (new : List Node) (next : Node) (room : Bool) → IsChild s.counted n t (Some next) → IsAdded s nodes new next room → IsFollowed s nodes new place t room
+  pub child_followed : (new : List Node) (next : Node) (room : Bool) → IsChild s.counted n t (Some next) → IsNodeAdded s nodes new next room → IsFollowed s nodes new place t room
   child_followed new next room child added = record {
     nodes = added.nodes;
     extends = added.extends;

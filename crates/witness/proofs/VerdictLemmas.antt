@@ -15,7 +15,7 @@ use Rattle.witness.specs.declared.judge.Judged.TheVariants as answer
 use Rattle.witness.specs.declared.verdict.NoVerdict.TheVariants as none
 use Rattle.witness.specs.declared.verdict.Verdict.TheVariants as told
 use Rattle.witness.specs.Judging.{AreLike, IsJudged, IsJudgedWhole}
-use Rattle.witness.specs.Verdicts.{IsEnd, IsVerdict, IsNoVerdict}
+use Rattle.witness.specs.Verdicts.{IsMachineEnd, IsVerdict, IsNoVerdict}
 
 -- The end of a schedule that was run on a machine at the start, where this is the least thread inside an atomic call, or there is none.
 module _ (P : Program) (s : List ℕ) (old m : MachineValue) (o : Option ℕ) (first : program_run old ≡ P) (last : program_run m ≡ P)
@@ -26,14 +26,14 @@ module _ (P : Program) (s : List ℕ) (old m : MachineValue) (o : Option ℕ) (f
   least : open_thread P here.0 ≡ o
   least = sym (opens here.0 here.2 ∙ ap (λ Q. open_thread Q here.0) last)
 
-  pub closed_end : o ≡ None → IsEnd P s m
+  pub closed_end : o ≡ None → IsMachineEnd P s m
   closed_end is = (here.0, record { runs = here.1; closed = least ∙ is }, here.2)
 
   pub open_end : (t : ℕ) → o ≡ Some t → IsNoVerdict P s (none.Open t)
   open_end t is = (here.0, here.1, least ∙ is)
 
 -- What is shown of a schedule at whose end the machine stands.
-module _ (P : Program) (s : List ℕ) (most : ℕ) (m : MachineValue) (end : IsEnd P s m) where
+module _ (P : Program) (s : List ℕ) (most : ℕ) (m : MachineValue) (end : IsMachineEnd P s m) where
   pub shown_whole : (c d : Compared) (j : Judged) → d ≡ c → ((q : State) → StandsFor m q → IsJudgedWhole P (AreLike d) most q j) → j ≡ answer.Broken → IsFullWitnessAs P (AreLike c) s
   shown_whole c d j same judged is = record {
     last = end.0;

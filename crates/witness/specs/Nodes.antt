@@ -45,7 +45,7 @@ pub record IsBehind (n : Node) (m : MachineValue) (t : ℕ) (next : Node) : Type
   pub path : next.path.items ≡ n.path.items ++ t ∷ []
 
 -- a step of a thread of a node leads there
-pub record LeadsTo (n : Node) (t : ℕ) (next : Node) : Type 0 where
+pub record StepsTo (n : Node) (t : ℕ) (next : Node) : Type 0 where
   pub machine : MachineValue
   pub behind : IsBehind n machine t next
   pub runs : machine.program ≡ n.machine.program
@@ -56,7 +56,7 @@ pub record LeadsTo (n : Node) (t : ℕ) (next : Node) : Type 0 where
 -- the child of a node by a step of a thread: it leads there, and interrupts nobody; none where there is no such step
 abbrev pub IsChild : Bool → Node → ℕ → Option Node → Type 0
 IsChild counted n t None = allows counted (left_at n) t ≡ true → may_step n.busy t ≡ true → (q : State) → StandsFor n.machine q → step (program_run n.machine) q t ≡ None
-IsChild counted n t (Some next) = (allows counted (left_at n) t ≡ true) × (may_step n.busy t ≡ true) × LeadsTo n t next
+IsChild counted n t (Some next) = (allows counted (left_at n) t ≡ true) × (may_step n.busy t ≡ true) × StepsTo n t next
 
 -- two nodes are the same, but for the schedules that led there
 pub record IsTwin (n m : Node) : Type 0 where

@@ -52,7 +52,7 @@ LeadsIn s nodes n t = (q : State) (busy : Option ℕ) (left : ℕ → ℕ) (next
     → step (searched s) q t ≡ Some next → InSet nodes next (must_step_next (searched s) next t) (less left t)
 
 -- a node was added, where it wasn't there already; without room nothing was
-pub record IsAdded (s : Search) (old new : List Node) (n : Node) (room : Bool) : Type 0 where
+pub record IsNodeAdded (s : Search) (old new : List Node) (n : Node) (room : Bool) : Type 0 where
   pub nodes : AreNodes s new
   pub extends : Extends old new
   pub within : room ≡ true → (q : State) (busy : Option ℕ) (left : ℕ → ℕ) → Covers n q busy left → InSet new q busy left

@@ -19,23 +19,23 @@ use Rattle.witness.specs.declared.verdict.NoVerdict.TheVariants as none
 use Rattle.witness.specs.Judging.{AreLike}
 
 -- the program of a case
-abbrev pub program_in : Case → Program
-program_in c = program_of c.program.now
+abbrev pub program_of_case : Case → Program
+program_of_case c = program_of c.program.now
 
 -- the code is the program's, the schedule has at most so many entries, and some state may be seen
 pub record IsCase (c : Case) : Type 0 where
-  pub code : IsCodeOf (program_in c) c.code.now.code.items c.code.now.entry.items c.code.now.room.items
+  pub code : IsCodeOf (program_of_case c) c.code.now.code.items c.code.now.entry.items c.code.now.room.items
   pub size : length c.schedule.now ≤ 200000
   pub most : 1 ≤ c.most
 
 -- the schedule runs to this state, in which no thread stands inside an atomic call
-pub record EndsAt (P : Program) (s : List ℕ) (q : State) : Type 0 where
+pub record EndsOutsideAt (P : Program) (s : List ℕ) (q : State) : Type 0 where
   pub runs : run P s ≡ Some q
   pub closed : open_thread P q ≡ None
 
 -- the machine stands for the state at which the schedule ends so
-abbrev pub IsEnd : Program → List ℕ → MachineValue → Type 0
-IsEnd P s m = (q : State) × EndsAt P s q × StandsFor m q
+abbrev pub IsMachineEnd : Program → List ℕ → MachineValue → Type 0
+IsMachineEnd P s m = (q : State) × EndsOutsideAt P s q × StandsFor m q
 
 -- the schedule is a witness by this comparison; or a full one
 abbrev pub IsShown : Program → List ℕ → Compared → (full : Bool) → Type 0
@@ -49,9 +49,9 @@ IsBrokenIn P s sense = IsShown P s sense.by sense.full
 -- An order leaves the same objects and the same output; where the promises are broken they are so in the sense that is told; and where
 -- neither is told, as many states were seen as may be.
 abbrev pub IsVerdict : Program → (most : ℕ) → List ℕ → Verdict → Type 0
-IsVerdict P most s (told.Kept r) = (q : State) × EndsAt P s q × IsOrder P (AreLike by.Objects) s q r.items
+IsVerdict P most s (told.Kept r) = (q : State) × EndsOutsideAt P s q × IsOrder P (AreLike by.Objects) s q r.items
 IsVerdict P most s (told.Broken sense) = IsBrokenIn P s sense
-IsVerdict P most s (told.Undecided seen) = (q : State) × EndsAt P s q × (seen ≡ most)
+IsVerdict P most s (told.Undecided seen) = (q : State) × EndsOutsideAt P s q × (seen ≡ most)
 
 -- when no verdict is given: the schedule stops, or ends with a thread inside an atomic call; of want of memory nothing is said
 abbrev pub IsNoVerdict : Program → List ℕ → NoVerdict → Type 0

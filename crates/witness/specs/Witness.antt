@@ -59,8 +59,8 @@ module _ (P : Program) (Like : State → State → Type 0) where
     pub broken : IsReachedAs last → ⊥
 
 -- a rearrangement of the schedule runs to the same state and interrupts no atomic call
-abbrev pub IsKept : Program → List ℕ → State → Type 0
-IsKept P s q = IsKeptAs P (IsLike SameState) s q
+abbrev pub IsStateKept : Program → List ℕ → State → Type 0
+IsStateKept P s q = IsKeptAs P (IsLike SameState) s q
 
 -- the schedule runs to a state with no thread inside an atomic call, and isn't kept
 abbrev pub IsWitness : Program → List ℕ → Type 0

@@ -4,7 +4,7 @@ ghost use Rattle.core_program.specs.Examples.{counter};
 ghost use Rattle.state.specs.States.{initial};
 ghost use Rattle.semantics.specs.Examples.{interleaved, counted_to_two};
 ghost use Rattle.witness.specs.Walks.{walk};
-ghost use Rattle.witness.specs.Witness.{IsKept};
+ghost use Rattle.witness.specs.Witness.{IsStateKept};
 
 use semantics::examples::units_of_two_workers;
 use semantics::unit_laws;
@@ -13,7 +13,7 @@ use semantics::unit_laws;
 /// after the other it ends in the same state.
 pub fn overlapping_calls_are_kept()
     ensures interrupted { walk counter (initial counter) None interleaved ≡ None }
-    ensures kept { IsKept counter interleaved counted_to_two }
+    ensures kept { IsStateKept counter interleaved counted_to_two }
 {
     units_of_two_workers();
     unit_laws();

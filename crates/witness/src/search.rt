@@ -4,7 +4,7 @@ ghost use Rattle.state.specs.States.{State, initial};
 ghost use Rattle.witness.specs.declared.node.Node.{Node};
 ghost use Rattle.witness.specs.Judging.{AreLike, IsGoal};
 ghost use Rattle.witness.specs.Nodes.{left_at, Covers, IsTwin};
-ghost use Rattle.witness.specs.Searching.{IsNode, AreNodes, InSet, IsAdded, IsFollowed, IsExpanded, IsFound, start_left, searched};
+ghost use Rattle.witness.specs.Searching.{IsNode, AreNodes, InSet, IsNodeAdded, IsFollowed, IsExpanded, IsFound, start_left, searched};
 
 use crate::goal::{Goal, is_like};
 use crate::judge::Judged;
@@ -55,7 +55,7 @@ fn add<'p>(
     requires nodes { AreNodes search.now nodes.old.items }
     requires node { IsNode search.now node }
     requires few { node.machine.made ≤ length nodes.old.items }
-    ensures added { IfOk result (IsAdded search.now nodes.old.items nodes.new.items node.entry) }
+    ensures added { IfOk result (IsNodeAdded search.now nodes.old.items nodes.new.items node.entry) }
     ensures most { vec_len nodes.new ≤ search.now.most }
     ensures longer { vec_len nodes.old ≤ vec_len nodes.new }
     ensures full { IfOk result (λ room. room ≡ false → vec_len nodes.new ≡ search.now.most) }

@@ -8,7 +8,7 @@ ghost use Rattle.witness.specs.Witness.{IsWitnessAs, IsFullWitnessAs};
 ghost use Rattle.witness.specs.declared.goal.Compared.TheVariants as comparisons;
 ghost use Rattle.witness.specs.declared.judge.Judged.TheVariants as answers;
 ghost use Rattle.witness.specs.Judging.{AreLike, IsGoal};
-ghost use Rattle.witness.specs.Verdicts.{program_in, IsCase, IsEnd, IsVerdict, IsBrokenIn, IsNoVerdict};
+ghost use Rattle.witness.specs.Verdicts.{program_of_case, IsCase, IsMachineEnd, IsVerdict, IsBrokenIn, IsNoVerdict};
 
 use crate::goal::{Compared, Goal};
 use crate::judge::{Judged, judge_orders, judge_ways};
@@ -101,7 +101,7 @@ fn run_whole(alloc: Global, machine: &mut Machine<'_>, schedule: &[u32]) -> Resu
 /// The machine at the end of the schedule.
 fn ended<'c>(alloc: Global, case: &Case<'c>) -> Result<Machine<'c>, NoVerdict>
     requires { IsCase case.now }
-    ensures { MatchResult result (IsEnd (program_in case.now) case.now.schedule.now) (IsNoVerdict (program_in case.now) case.now.schedule.now) }
+    ensures { MatchResult result (IsMachineEnd (program_of_case case.now) case.now.schedule.now) (IsNoVerdict (program_of_case case.now) case.now.schedule.now) }
 {
     let mut machine = Machine::start(alloc, case.program, case.code)?;
     run_whole(alloc, &mut machine, case.schedule)?;
@@ -141,8 +141,8 @@ fn no_way(
     by: Compared,
 ) -> Result<bool, NoMemory>
     requires case { IsCase case.now }
-    requires end { IsEnd (program_in case.now) case.now.schedule.now machine.now }
-    ensures { IfOk result (λ found. found ≡ true → IsFullWitnessAs (program_in case.now) (AreLike by) case.now.schedule.now) }
+    requires end { IsMachineEnd (program_of_case case.now) case.now.schedule.now machine.now }
+    ensures { IfOk result (λ found. found ≡ true → IsFullWitnessAs (program_of_case case.now) (AreLike by) case.now.schedule.now) }
 {
     let judged = judge_ways(
         alloc,
@@ -157,8 +157,8 @@ fn no_way(
 /// Whether it is found that no order of the schedule prints the same.
 fn no_order(alloc: Global, case: &Case<'_>, machine: &Machine<'_>) -> Result<bool, NoMemory>
     requires case { IsCase case.now }
-    requires end { IsEnd (program_in case.now) case.now.schedule.now machine.now }
-    ensures { IfOk result (λ found. found ≡ true → IsWitnessAs (program_in case.now) (AreLike comparisons.Output) case.now.schedule.now) }
+    requires end { IsMachineEnd (program_of_case case.now) case.now.schedule.now machine.now }
+    ensures { IfOk result (λ found. found ≡ true → IsWitnessAs (program_of_case case.now) (AreLike comparisons.Output) case.now.schedule.now) }
 {
     let judged = judge_orders(
         alloc,
@@ -174,9 +174,9 @@ fn no_order(alloc: Global, case: &Case<'_>, machine: &Machine<'_>) -> Result<boo
 /// The strongest sense in which the promises of a schedule are found to be broken, where no order leaves the same.
 fn strongest(alloc: Global, case: &Case<'_>, machine: &Machine<'_>) -> Result<Sense, NoMemory>
     requires case { IsCase case.now }
-    requires end { IsEnd (program_in case.now) case.now.schedule.now machine.now }
-    requires broken { IsWitnessAs (program_in case.now) (AreLike comparisons.Objects) case.now.schedule.now }
-    ensures { IfOk result (IsBrokenIn (program_in case.now) case.now.schedule.now) }
+    requires end { IsMachineEnd (program_of_case case.now) case.now.schedule.now machine.now }
+    requires broken { IsWitnessAs (program_of_case case.now) (AreLike comparisons.Objects) case.now.schedule.now }
+    ensures { IfOk result (IsBrokenIn (program_of_case case.now) case.now.schedule.now) }
 {
     if no_way(alloc, case, machine, Compared::Output)? {
         return Ok(Sense {
@@ -205,8 +205,8 @@ fn strongest(alloc: Global, case: &Case<'_>, machine: &Machine<'_>) -> Result<Se
 /// What is told of the schedule at whose end this machine stands.
 fn told(alloc: Global, case: &Case<'_>, machine: &Machine<'_>) -> Result<Verdict, NoMemory>
     requires case { IsCase case.now }
-    requires end { IsEnd (program_in case.now) case.now.schedule.now machine.now }
-    ensures { IfOk result (IsVerdict (program_in case.now) case.now.most case.now.schedule.now) }
+    requires end { IsMachineEnd (program_of_case case.now) case.now.schedule.now machine.now }
+    ensures { IfOk result (IsVerdict (program_of_case case.now) case.now.most case.now.schedule.now) }
 {
     match judge_orders(
         alloc,
@@ -225,7 +225,7 @@ fn told(alloc: Global, case: &Case<'_>, machine: &Machine<'_>) -> Result<Verdict
 /// What is told of a schedule; or why nothing is.
 pub fn judge_schedule(alloc: Global, case: &Case<'_>) -> Result<Verdict, NoVerdict>
     requires { IsCase case.now }
-    ensures { MatchResult result (IsVerdict (program_in case.now) case.now.most case.now.schedule.now) (IsNoVerdict (program_in case.now) case.now.schedule.now) }
+    ensures { MatchResult result (IsVerdict (program_of_case case.now) case.now.most case.now.schedule.now) (IsNoVerdict (program_of_case case.now) case.now.schedule.now) }
 {
     let machine = ended(alloc, case)?;
     Ok(told(alloc, case, &machine)?)

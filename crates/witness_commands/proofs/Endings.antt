@@ -17,9 +17,9 @@ use Rattle.sources.proofs.Apart.{no_source_is_none, no_source_ends}
 use Rattle.semantics.specs.Run.{Runs, open_thread}
 use Rattle.schedule_commands.specs.Schedules.{NoOrder, no_run, open_call, HasInput, IsWellFormedText, IsNoSchedule, LeavesCallOpen, EndsOutside}
 use Rattle.schedule_commands.proofs.ScheduleEndings.{runs_to, inputs_apart, no_source_input, no_schedule_input, refused_text, refused_run}
-use Rattle.witness_commands.specs.Answers.{Refuses, no_source, no_schedule, no_end, IsTold, kept, broken, undecided, WitnessAnswer, refused, told, IsKeptEnd, IsWitnessOf}
-use Rattle.witness_commands.specs.Reading.{AreWithin}
-use Rattle.witness_commands.specs.Written.{Belongs, source_large, schedule_large, answered, Decides, IsExact}
+use Rattle.witness_commands.specs.Answers.{RefusesInput, no_source, no_schedule, no_end, IsToldOfSchedule, kept, broken, undecided, WitnessAnswer, refused, told, IsKeptEnd, IsWitnessOf}
+use Rattle.witness_commands.specs.Reading.{AreBothWithin}
+use Rattle.witness_commands.specs.Written.{BelongsToFiles, source_large, schedule_large, answered, Decides, IsExact}
 
 -- a witness in any sense is one by objects and output
 pub witness_of : (P : Program) (s : List ℕ) (by : Compared) (full : Bool) → IsShown P s by full → IsWitnessOf P s
@@ -82,21 +82,21 @@ decided status fact f = record { only = λ e. f; all = λ g. inl refl }
 open_end : (status : ℕ) (fact : Type 0) → (16 ≡ status → ⊥) → Decides 16 status fact
 open_end status fact other = record { only = λ e. absurd (other e); all = λ g. inr (inl refl) }
 
-both_over : (file text : List ℕ) → (longest_source < length file) ⊎ (longest_second_file < length text) → AreWithin file text → ⊥
+both_over : (file text : List ℕ) → (longest_source < length file) ⊎ (longest_second_file < length text) → AreBothWithin file text → ⊥
 both_over file text (inl over) within = omega (arith, over, within.0)
 both_over file text (inr over) within = omega (arith, over, within.1)
 
-module _ (file text : List ℕ) (within : AreWithin file text) where
+module _ (file text : List ℕ) (within : AreBothWithin file text) where
   large : (status : ℕ) → (status ≡ 10 → ⊥) → Exactly status 10 ((longest_source < length file) ⊎ (longest_second_file < length text))
   large status other = never status 10 _ other (λ over. both_over file text over within)
 
-  no_input : (F : Program → List ℕ → Type 0) → IsNotWellFormed file → AreWithin file text × HasInput file text F → ⊥
+  no_input : (F : Program → List ℕ → Type 0) → IsNotWellFormed file → AreBothWithin file text × HasInput file text F → ⊥
   no_input F none h = no_source_input file text F h.1 none
 
-  no_text : (F : Program → List ℕ → Type 0) → IsNoSchedule text → AreWithin file text × HasInput file text F → ⊥
+  no_text : (F : Program → List ℕ → Type 0) → IsNoSchedule text → AreBothWithin file text × HasInput file text F → ⊥
   no_text F none h = no_schedule_input file text F h.1 none
 
-  apart : (F G : Program → List ℕ → Type 0) → ((P : Program) (s : List ℕ) → F P s → G P s → ⊥) → HasInput file text F → AreWithin file text × HasInput file text G → ⊥
+  apart : (F G : Program → List ℕ → Type 0) → ((P : Program) (s : List ℕ) → F P s → G P s → ⊥) → HasInput file text F → AreBothWithin file text × HasInput file text G → ⊥
   apart F G not f g = inputs_apart file text F G not f g.1
 
   exact_refused : IsNotWellFormed file → IsExact file text 1
@@ -124,10 +124,10 @@ module _ (file text : List ℕ) (within : AreWithin file text) where
   }
 
   -- of a source and a schedule: it is neither refused nor the text of none
-  not_refused : (status : ℕ) (F : Program → List ℕ → Type 0) → HasInput file text F → (status ≡ 1 → ⊥) → Exactly status 1 (AreWithin file text × IsNotWellFormed file)
+  not_refused : (status : ℕ) (F : Program → List ℕ → Type 0) → HasInput file text F → (status ≡ 1 → ⊥) → Exactly status 1 (AreBothWithin file text × IsNotWellFormed file)
   not_refused status F h other = never status 1 _ other (λ g. no_source_input file text F h g.1)
 
-  is_schedule : (status : ℕ) (F : Program → List ℕ → Type 0) → HasInput file text F → (status ≡ 3 → ⊥) → Exactly status 3 (AreWithin file text × IsWellFormedText file × IsNoSchedule text)
+  is_schedule : (status : ℕ) (F : Program → List ℕ → Type 0) → HasInput file text F → (status ≡ 3 → ⊥) → Exactly status 3 (AreBothWithin file text × IsWellFormedText file × IsNoSchedule text)
   is_schedule status F h other = never status 3 _ other (λ g. no_schedule_input file text F h g.2)
 
   exact_stopped : HasInput file text IsStuck → IsExact file text 4
@@ -156,11 +156,11 @@ module _ (file text : List ℕ) (within : AreWithin file text) where
 
   -- of a schedule that ends with no thread inside an atomic call: it doesn't stop, nor end inside
   runs_whole : (status : ℕ) (F : Program → List ℕ → Type 0) → ((P : Program) (s : List ℕ) → F P s → EndsOutside P s) → HasInput file text F → (status ≡ 4 → ⊥)
-      → Exactly status 4 (AreWithin file text × HasInput file text IsStuck)
+      → Exactly status 4 (AreBothWithin file text × HasInput file text IsStuck)
   runs_whole status F out h other = never status 4 _ other (apart F IsStuck (λ P s a b. stuck_or_outside P s b (out P s a)) h)
 
   ends_outside : (status : ℕ) (F : Program → List ℕ → Type 0) → ((P : Program) (s : List ℕ) → F P s → EndsOutside P s) → HasInput file text F → (status ≡ 5 → ⊥)
-      → Exactly status 5 (AreWithin file text × HasInput file text LeavesCallOpen)
+      → Exactly status 5 (AreBothWithin file text × HasInput file text LeavesCallOpen)
   ends_outside status F out h other = never status 5 _ other (apart F LeavesCallOpen (λ P s a b. inside_or_outside P s b (out P s a)) h)
 
   exact_kept : HasInput file text IsKeptEnd → IsExact file text 0
@@ -205,13 +205,13 @@ module _ (file text : List ℕ) (within : AreWithin file text) where
       let r = refused_run P s ended line is in subst (λ e. IsExact file text (code_of e)) (sym r.0) (exact_stopped (input IsStuck r.1))
   exact_end _ _ P s (open_call q t e stands) input = exact_inside (input LeavesCallOpen (q, e, ap is_some stands))
 
-  exact_refuses : (ended : Ending) (line : List ℕ) → Refuses file text ended line → IsExact file text (code_of ended)
+  exact_refuses : (ended : Ending) (line : List ℕ) → RefusesInput file text ended line → IsExact file text (code_of ended)
   exact_refuses _ _ (no_source {ending = ended} {line = line} is) = subst (λ e. IsExact file text (code_of e)) (sym (no_source_ends file ended line is)) (exact_refused (no_source_is_none file ended line is))
   exact_refuses _ _ (no_schedule {ending = ended} {line = line} tree P source is) =
       let r = refused_text text ended line is in subst (λ e. IsExact file text (code_of e)) (sym r.0) (exact_no_schedule (tree, P, source) r.1)
   exact_refuses _ _ (no_end {ending = ended} {line = line} tree P s input is) = exact_end ended line P s is (λ G g. (tree, P, s, input, g))
 
-  exact_told : (P : Program) (s : List ℕ) (status : ℕ) (out : List ℕ) → IsTold P s status out → ((G : Program → List ℕ → Type 0) → G P s → HasInput file text G) → IsExact file text status
+  exact_told : (P : Program) (s : List ℕ) (status : ℕ) (out : List ℕ) → IsToldOfSchedule P s status out → ((G : Program → List ℕ → Type 0) → G P s → HasInput file text G) → IsExact file text status
   exact_told P s _ _ (kept q r ends order spells) input = exact_kept (input IsKeptEnd (q, ends, (r, order)))
   exact_told P s _ _ (broken by full is none) input = exact_broken (input IsWitnessOf (witness_of P s by full is))
   exact_told P s _ _ (undecided q ends) input = exact_undecided (input EndsOutside (q, ends.runs, ends.closed))
@@ -226,7 +226,7 @@ order_low : (P : Program) (s : List ℕ) (ended : Ending) (line : List ℕ) → 
 order_low P s _ _ (no_run {ending = ended} {line = line} is) = subst (λ e. code_of e ≤ 5) (sym (refused_run P s ended line is).0) (omega arith)
 order_low P s _ _ (open_call q t e stands) = omega arith
 
-refuses_low : (file text : List ℕ) (ended : Ending) (line : List ℕ) → Refuses file text ended line → code_of ended ≤ 5
+refuses_low : (file text : List ℕ) (ended : Ending) (line : List ℕ) → RefusesInput file text ended line → code_of ended ≤ 5
 refuses_low file text _ _ (no_source {ending = ended} {line = line} is) = subst (λ e. code_of e ≤ 5) (sym (no_source_ends file ended line is)) (omega arith)
 refuses_low file text _ _ (no_schedule {ending = ended} {line = line} tree P source is) = subst (λ e. code_of e ≤ 5) (sym (refused_text text ended line is).0) (omega arith)
 refuses_low file text _ _ (no_end {ending = ended} {line = line} tree P s input is) = order_low P s ended line is
@@ -236,12 +236,12 @@ refuses_not_two P s _ _ (no_run {ending = ended} {line = line} is) two = let e :
 refuses_not_two P s _ _ (open_call q t e stands) two = omega (arith, two)
 
 -- status 2 is none of a refusal
-pub refuses_other : (file text : List ℕ) (ended : Ending) (line : List ℕ) → Refuses file text ended line → code_of ended ≡ 2 → ⊥
+pub refuses_other : (file text : List ℕ) (ended : Ending) (line : List ℕ) → RefusesInput file text ended line → code_of ended ≡ 2 → ⊥
 refuses_other file text _ _ (no_source {ending = ended} {line = line} is) two = let e : 1 ≡ 2 = sym (ap code_of (no_source_ends file ended line is)) ∙ two in omega (arith, e)
 refuses_other file text _ _ (no_schedule {ending = ended} {line = line} tree P source is) two = let e : 3 ≡ 2 = sym (ap code_of (refused_text text ended line is).0) ∙ two in omega (arith, e)
 refuses_other file text _ _ (no_end {ending = ended} {line = line} tree P s input is) two = refuses_not_two P s ended line is two
 
-told_apart : (P : Program) (s : List ℕ) (status : ℕ) (out : List ℕ) → IsTold P s status out → (6 ≤ status) × (status ≤ 10) → ⊥
+told_apart : (P : Program) (s : List ℕ) (status : ℕ) (out : List ℕ) → IsToldOfSchedule P s status out → (6 ≤ status) × (status ≤ 10) → ⊥
 told_apart P s _ _ (kept q r ends order spells) between = omega (arith, between.0)
 told_apart P s _ _ (broken by full is none) between = omega (arith, between.0)
 told_apart P s _ _ (undecided q ends) between = omega (arith, between.1)
@@ -262,7 +262,7 @@ exact_over file text over = record {
   undecided = λ e. absurd (omega (arith, e));
 }
 
-pub exact_answer : (source schedule file text : List ℕ) (status : ℕ) (out : List ℕ) → Belongs source schedule file text status out → IsExact file text status
+pub exact_answer : (source schedule file text : List ℕ) (status : ℕ) (out : List ℕ) → BelongsToFiles source schedule file text status out → IsExact file text status
 exact_answer source schedule file text _ _ (source_large over) = exact_over file text (inl over)
 exact_answer source schedule file text _ _ (schedule_large small over) = exact_over file text (inr over)
 exact_answer source schedule file text _ _ (answered {status = status} {out = out} within is) = exact_answered file text within status out is

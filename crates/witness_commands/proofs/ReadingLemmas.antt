@@ -5,8 +5,8 @@ use Rattle.sources.specs.Limits.{longest_second_file}
 use Rattle.edge.specs.declared.transfer.ReadEnd.{ReadEnd}
 use Rattle.edge.specs.declared.transfer.ReadEnd.TheVariants.{Fault, TooLarge, NoMemory}
 use Rattle.edge.specs.Faults.{Rose}
-use Rattle.witness_commands.specs.Outcomes.{IsOutcome, IsUnreadLine, unread, over}
-use Rattle.witness_commands.specs.Reading.{AreBytesOf, AreRead, IsSourceWithin, IsQuiet, IsUnread, IsOver, IsFirstUnread, IsFirstOver, source_unread, schedule_unread, source_over, schedule_over}
+use Rattle.witness_commands.specs.Outcomes.{IsWitnessOutcome, IsUnreadLine, unread, over}
+use Rattle.witness_commands.specs.Reading.{AreBytesOf, AreBothRead, IsSourceWithin, IsQuiet, IsUnread, IsOver, IsFirstOfTwoUnread, IsFirstOfTwoOver, source_unread, schedule_unread, source_over, schedule_over}
 
 -- What the reading of a file of this name says at its end.
 pub record Ends (told : List ℕ → Option (List ℕ)) (before now : List ℕ → ℕ) (limit : ℕ) (name : List ℕ) (end : ReadEnd) : Type 0 where
@@ -27,23 +27,23 @@ earlier told after before mid now limit name end same calm e = record {
 
 module _ (told : List ℕ → Option (List ℕ)) (before now : List ℕ → ℕ) (source schedule : List ℕ) where
   line_of : (limit : ℕ) (name : List ℕ) (end : ReadEnd) (status : ℕ) (line : List ℕ) → Ends told before now limit name end
-      → (IsUnread told before now name → IsFirstUnread told before now source schedule name) → (IsOver told before now limit name → IsFirstOver told before now source schedule name)
-      → IsUnreadLine name end status line → IsOutcome source schedule told before now status line
+      → (IsUnread told before now name → IsFirstOfTwoUnread told before now source schedule name) → (IsOver told before now limit name → IsFirstOfTwoOver told before now source schedule name)
+      → IsUnreadLine name end status line → IsWitnessOutcome source schedule told before now status line
   line_of limit name Fault status line e first large says =
-      subst (λ n. IsOutcome source schedule told before now n line) (sym says.0) (subst (IsOutcome source schedule told before now 6) (sym says.1)
+      subst (λ n. IsWitnessOutcome source schedule told before now n line) (sym says.0) (subst (IsWitnessOutcome source schedule told before now 6) (sym says.1)
       (unread name (first (record { rose = e.fault refl; others = e.others }))))
   line_of limit name TooLarge status line e first large says =
-      subst (λ n. IsOutcome source schedule told before now n line) (sym says.0) (subst (IsOutcome source schedule told before now 10) (sym says.1)
+      subst (λ n. IsWitnessOutcome source schedule told before now n line) (sym says.0) (subst (IsWitnessOutcome source schedule told before now 10) (sym says.1)
       (over name (large (record { over = e.large refl; quiet = e.calm (λ is. let both : TooLarge ≡ Fault = is in cc) }))))
   line_of limit name NoMemory status line e first large says = absurd says
 
   -- the source wasn't read
-  pub source_ends : (end : ReadEnd) (status : ℕ) (line : List ℕ) → Ends told before now longest_source source end → IsUnreadLine source end status line → IsOutcome source schedule told before now status line
+  pub source_ends : (end : ReadEnd) (status : ℕ) (line : List ℕ) → Ends told before now longest_source source end → IsUnreadLine source end status line → IsWitnessOutcome source schedule told before now status line
   source_ends end status line e says = line_of longest_source source end status line e (λ is. source_unread is) (λ is. source_over is) says
 
   -- the source was read, and the schedule wasn't
   pub schedule_ends : IsSourceWithin told source → (end : ReadEnd) (status : ℕ) (line : List ℕ) → Ends told before now longest_second_file schedule end → IsUnreadLine schedule end status line
-      → IsOutcome source schedule told before now status line
+      → IsWitnessOutcome source schedule told before now status line
   schedule_ends within end status line e says = line_of longest_second_file schedule end status line e (λ is. schedule_unread within is) (λ is. schedule_over within is) says
 
 -- what is told of a file that was read is within the limit
@@ -53,7 +53,7 @@ told_within (Some file) bytes limit is within = subst (λ b. length b ≤ limit)
 
 -- both files were read
 pub both_read : (told after : List ℕ → Option (List ℕ)) (before mid now : List ℕ → ℕ) (source schedule file text : List ℕ) → ((other : List ℕ) → after other ≡ told other) → IsQuiet before mid → IsQuiet mid now
-    → AreBytesOf told source file → AreBytesOf after schedule text → length file ≤ longest_source → length text ≤ longest_second_file → AreRead told before now source schedule file text
+    → AreBytesOf told source file → AreBytesOf after schedule text → length file ≤ longest_source → length text ≤ longest_second_file → AreBothRead told before now source schedule file text
 both_read told after before mid now source schedule file text same first second one other small short = record {
   source_is = one;
   schedule_is = subst (λ o. IfSome o (λ bytes. text ≡ bytes)) (same schedule) other;

@@ -7,10 +7,10 @@ use Rattle.sources.specs.Limits.{longest_second_file}
 use Rattle.edge.specs.Faults.{Rose}
 use Rattle.edge.specs.Lines.{cannot_read_line, too_large_line}
 use Rattle.edge.specs.Said.{SaysText, IsTroubleStatus}
-use Rattle.witness_commands.specs.Outcomes.{IsOutcome, unread, over, read}
-use Rattle.witness_commands.specs.Reading.{AreBytesOf, IsQuiet, IsFirstUnread, source_unread, schedule_unread, IsFirstOver, source_over, schedule_over}
-use Rattle.witness_commands.specs.Words.{IsRow}
-use Rattle.witness_commands.specs.Written.{IsAsked, Belongs, source_large, schedule_large, answered as belongs_answer, IsExact, WritesAnswer, WritesAnswerToBytes, IsSomeText, some_unread, some_answer, WritesFront}
+use Rattle.witness_commands.specs.Outcomes.{IsWitnessOutcome, unread, over, read}
+use Rattle.witness_commands.specs.Reading.{AreBytesOf, IsQuiet, IsFirstOfTwoUnread, source_unread, schedule_unread, IsFirstOfTwoOver, source_over, schedule_over}
+use Rattle.witness_commands.specs.Words.{NamesFiles}
+use Rattle.witness_commands.specs.Written.{IsAsked, BelongsToFiles, source_large, schedule_large, answered as belongs_answer, IsExact, WritesAnswer, WritesAnswerToFiles, IsSomeText, some_unread, some_answer, WritesFront}
 use Rattle.witness_commands.proofs.Endings.{exact_answer, exact_yield, not_between}
 
 -- words name two files at most
@@ -18,7 +18,7 @@ pub record Same (source schedule its other : List ℕ) : Type 0 where
   pub source_is : source ≡ its
   pub schedule_is : schedule ≡ other
 
-one_row : (words : List (List ℕ)) (source schedule its other : List ℕ) → IsRow words source schedule → IsRow words its other → Same source schedule its other
+one_row : (words : List (List ℕ)) (source schedule its other : List ℕ) → NamesFiles words source schedule → NamesFiles words its other → Same source schedule its other
 one_row words source schedule its other a b =
     let e : source ∷ schedule ∷ [] ≡ its ∷ other ∷ [] = sym a ∙ b in
     record { source_is = cc; schedule_is = cc }
@@ -58,42 +58,42 @@ any_bytes (Some file) = record { file = file; its = refl; fact = tt }
 pub record IsDone (words : List (List ℕ)) (result : ℕ) (told : List ℕ → Option (List ℕ)) (before now : List ℕ → ℕ) (old new : Option (List ℕ)) (sink_before sink_now : ℕ) : Type 0 where
   pub source : List ℕ
   pub schedule : List ℕ
-  pub is_row : IsRow words source schedule
+  pub is_row : NamesFiles words source schedule
   pub status : ℕ
   pub out : List ℕ
-  pub outcome : IsOutcome source schedule told before now status out
+  pub outcome : IsWitnessOutcome source schedule told before now status out
   pub said : SaysText result status out old new sink_before sink_now
 
 module _ (told : List ℕ → Option (List ℕ)) (before now : List ℕ → ℕ) (source schedule : List ℕ) where
   -- the status of an outcome
-  six : (status : ℕ) (out : List ℕ) → IsOutcome source schedule told before now status out → status ≡ 6
-      → (name : List ℕ) × IsFirstUnread told before now source schedule name × (out ≡ cannot_read_line name)
+  six : (status : ℕ) (out : List ℕ) → IsWitnessOutcome source schedule told before now status out → status ≡ 6
+      → (name : List ℕ) × IsFirstOfTwoUnread told before now source schedule name × (out ≡ cannot_read_line name)
   six _ _ (unread name is) e = (name, is, refl)
   six _ _ (over name is) e = absurd (omega (arith, e))
   six _ _ (read {status = status} {out = out} file text is answer) e = absurd (not_between file text status out answer (omega (arith, e), omega (arith, e)))
 
-  ten : (status : ℕ) (out : List ℕ) → IsOutcome source schedule told before now status out → status ≡ 10
-      → (name : List ℕ) × IsFirstOver told before now source schedule name × (out ≡ too_large_line name)
+  ten : (status : ℕ) (out : List ℕ) → IsWitnessOutcome source schedule told before now status out → status ≡ 10
+      → (name : List ℕ) × IsFirstOfTwoOver told before now source schedule name × (out ≡ too_large_line name)
   ten _ _ (unread name is) e = absurd (omega (arith, e))
   ten _ _ (over name is) e = (name, is, refl)
   ten _ _ (read {status = status} {out = out} file text is answer) e = absurd (not_between file text status out answer (omega (arith, e), omega (arith, e)))
 
-  not_seven : (status : ℕ) (out : List ℕ) → IsOutcome source schedule told before now status out → status ≡ 7 → ⊥
+  not_seven : (status : ℕ) (out : List ℕ) → IsWitnessOutcome source schedule told before now status out → status ≡ 7 → ⊥
   not_seven _ _ (unread name is) e = omega (arith, e)
   not_seven _ _ (over name is) e = omega (arith, e)
   not_seven _ _ (read {status = status} {out = out} file text is answer) e = not_between file text status out answer (omega (arith, e), omega (arith, e))
 
   -- an outcome's status is none of those that come where not all is written
-  none_between : (status : ℕ) (out : List ℕ) → IsOutcome source schedule told before now status out → 7 ≤ status → status ≤ 9 → ⊥
+  none_between : (status : ℕ) (out : List ℕ) → IsWitnessOutcome source schedule told before now status out → 7 ≤ status → status ≤ 9 → ⊥
   none_between _ _ (unread name is) low high = omega (arith, low)
   none_between _ _ (over name is) low high = omega (arith, high)
   none_between _ _ (read {status = status} {out = out} file text is answer) low high = not_between file text status out answer (omega (arith, low), omega (arith, high))
 
-  over_quiet : (name : List ℕ) → IsFirstOver told before now source schedule name → IsQuiet before now
+  over_quiet : (name : List ℕ) → IsFirstOfTwoOver told before now source schedule name → IsQuiet before now
   over_quiet _ (source_over is) = is.quiet
   over_quiet _ (schedule_over small is) = is.quiet
 
-  calm_or_six : (status : ℕ) (out : List ℕ) → IsOutcome source schedule told before now status out → (status ≡ 6) ⊎ IsQuiet before now
+  calm_or_six : (status : ℕ) (out : List ℕ) → IsWitnessOutcome source schedule told before now status out → (status ≡ 6) ⊎ IsQuiet before now
   calm_or_six _ _ (unread name is) = inl refl
   calm_or_six _ _ (over name is) = inr (over_quiet name is)
   calm_or_six _ _ (read {status = status} {out = out} file text is answer) = inr is.quiet
@@ -104,9 +104,9 @@ module _ (told : List ℕ → Option (List ℕ)) (before now : List ℕ → ℕ)
     text : List ℕ
     source_is : AreBytesOf told source file
     schedule_is : AreBytesOf told schedule text
-    belongs : Belongs source schedule file text status out
+    belongs : BelongsToFiles source schedule file text status out
 
-  over_bytes : (name : List ℕ) → IsFirstOver told before now source schedule name → IsToBytes 10 (too_large_line name)
+  over_bytes : (name : List ℕ) → IsFirstOfTwoOver told before now source schedule name → IsToBytes 10 (too_large_line name)
   over_bytes _ (source_over is) =
       let some = some_over (told source) longest_source is.over in
       let any = any_bytes (told schedule) in
@@ -116,7 +116,7 @@ module _ (told : List ℕ → Option (List ℕ)) (before now : List ℕ → ℕ)
       let some = some_over (told schedule) longest_second_file is.over in
       record { file = first.file; text = some.file; source_is = first.its; schedule_is = some.its; belongs = schedule_large first.fact some.fact }
 
-  to_some : (status : ℕ) (out : List ℕ) → IsOutcome source schedule told before now status out → (status ≡ 6) ⊎ IsToBytes status out
+  to_some : (status : ℕ) (out : List ℕ) → IsWitnessOutcome source schedule told before now status out → (status ≡ 6) ⊎ IsToBytes status out
   to_some _ _ (unread name is) = inl refl
   to_some _ _ (over name is) = inr (over_bytes name is)
   to_some _ _ (read {status = status} {out = out} file text is answer) =
@@ -125,20 +125,20 @@ module _ (told : List ℕ → Option (List ℕ)) (before now : List ℕ → ℕ)
   -- of files that are told: that one can't be read, or what belongs to their bytes
   module _ (file text : List ℕ) (source_told : told source ≡ Some file) (schedule_told : told schedule ≡ Some text) where
     abbrev Unreadable : ℕ → List ℕ → Type 0
-    Unreadable status out = (name : List ℕ) × IsFirstUnread told before now source schedule name × (status ≡ 6) × (out ≡ cannot_read_line name)
+    Unreadable status out = (name : List ℕ) × IsFirstOfTwoUnread told before now source schedule name × (status ≡ 6) × (out ≡ cannot_read_line name)
 
-    over_belongs : (name : List ℕ) → IsFirstOver told before now source schedule name → Belongs source schedule file text 10 (too_large_line name)
+    over_belongs : (name : List ℕ) → IsFirstOfTwoOver told before now source schedule name → BelongsToFiles source schedule file text 10 (too_large_line name)
     over_belongs _ (source_over is) = source_large (told_fact (λ f. longest_source < length f) (told source) file source_told is.over)
     over_belongs _ (schedule_over small is) =
         schedule_large (told_fact (λ f. length f ≤ longest_source) (told source) file source_told small) (told_fact (λ f. longest_second_file < length f) (told schedule) text schedule_told is.over)
 
-    to_told : (status : ℕ) (out : List ℕ) → IsOutcome source schedule told before now status out → Unreadable status out ⊎ Belongs source schedule file text status out
+    to_told : (status : ℕ) (out : List ℕ) → IsWitnessOutcome source schedule told before now status out → Unreadable status out ⊎ BelongsToFiles source schedule file text status out
     to_told _ _ (unread name is) = inl (name, is, refl, refl)
     to_told _ _ (over name is) = inr (over_belongs name is)
     to_told _ _ (read {status = status} {out = out} bytes letters is answer) =
         let one = told_is (told source) file bytes source_told is.source_is in
         let other = told_is (told schedule) text letters schedule_told is.schedule_is in
-        inr (subst (λ f. Belongs source schedule f text status out) one (subst (λ t. Belongs source schedule bytes t status out) other (belongs_answer is.within answer)))
+        inr (subst (λ f. BelongsToFiles source schedule f text status out) one (subst (λ t. BelongsToFiles source schedule bytes t status out) other (belongs_answer is.within answer)))
 
 module _ (words : List (List ℕ)) (result : ℕ) (told : List ℕ → Option (List ℕ)) (before now : List ℕ → ℕ) (old new : Option (List ℕ)) (sink_before sink_now : ℕ)
     (d : IsDone words result told before now old new sink_before sink_now) where
@@ -146,10 +146,10 @@ module _ (words : List (List ℕ)) (result : ℕ) (told : List ℕ → Option (L
   Said = SaysText result d.status d.out old new sink_before sink_now
 
   -- what was found, for what the words name
-  its : (source schedule : List ℕ) → IsRow words source schedule → IsOutcome source schedule told before now d.status d.out
+  its : (source schedule : List ℕ) → NamesFiles words source schedule → IsWitnessOutcome source schedule told before now d.status d.out
   its source schedule is =
       let same = one_row words d.source d.schedule source schedule d.is_row is in
-      subst (λ x. IsOutcome x schedule told before now d.status d.out) same.source_is (subst (λ x. IsOutcome d.source x told before now d.status d.out) same.schedule_is d.outcome)
+      subst (λ x. IsWitnessOutcome x schedule told before now d.status d.out) same.source_is (subst (λ x. IsWitnessOutcome d.source x told before now d.status d.out) same.schedule_is d.outcome)
 
   -- a sink that fails
   pub failing : result ≡ 7 → Rose sink_before sink_now
@@ -175,20 +175,20 @@ module _ (words : List (List ℕ)) (result : ℕ) (told : List ℕ → Option (L
       by (inl s) = none_between told before now d.source d.schedule d.status d.out d.outcome (omega (arith, s.0, eight)) (omega (arith, s.0, eight))
 
   -- a file that can't be read
-  pub unreadable : (source schedule : List ℕ) → IsRow words source schedule → result ≡ 6
-      → (name : List ℕ) × IsFirstUnread told before now source schedule name × Appends old new (cannot_read_line name)
+  pub unreadable : (source schedule : List ℕ) → NamesFiles words source schedule → result ≡ 6
+      → (name : List ℕ) × IsFirstOfTwoUnread told before now source schedule name × Appends old new (cannot_read_line name)
   unreadable source schedule is e = by d.said
     where
-      by : Said → (name : List ℕ) × IsFirstUnread told before now source schedule name × Appends old new (cannot_read_line name)
+      by : Said → (name : List ℕ) × IsFirstOfTwoUnread told before now source schedule name × Appends old new (cannot_read_line name)
       by (inr s) = absurd (omega (arith, s.0, e))
       by (inl s) = let p = six told before now source schedule d.status d.out (its source schedule is) (sym s.0 ∙ e) in (p.0, p.1, subst (Appends old new) p.2 s.1)
 
   -- a file that is over its limit
-  pub over_limit : (source schedule : List ℕ) → IsRow words source schedule → result ≡ 10
-      → (name : List ℕ) × IsFirstOver told before now source schedule name × Appends old new (too_large_line name)
+  pub over_limit : (source schedule : List ℕ) → NamesFiles words source schedule → result ≡ 10
+      → (name : List ℕ) × IsFirstOfTwoOver told before now source schedule name × Appends old new (too_large_line name)
   over_limit source schedule is e = by d.said
     where
-      by : Said → (name : List ℕ) × IsFirstOver told before now source schedule name × Appends old new (too_large_line name)
+      by : Said → (name : List ℕ) × IsFirstOfTwoOver told before now source schedule name × Appends old new (too_large_line name)
       by (inr s) = absurd (omega (arith, s.0, e))
       by (inl s) = let p = ten told before now source schedule d.status d.out (its source schedule is) (sym s.0 ∙ e) in (p.0, p.1, subst (Appends old new) p.2 s.1)
 
@@ -202,10 +202,10 @@ module _ (words : List (List ℕ)) (result : ℕ) (told : List ℕ → Option (L
       by (inl s) (inr calm) = inr calm
 
   -- whatever is told, the files have bytes to which this is the answer
-  pub to_bytes : (source schedule : List ℕ) → IsRow words source schedule → IsTroubleStatus result ⊎ WritesAnswerToBytes source schedule told result old new
+  pub to_bytes : (source schedule : List ℕ) → NamesFiles words source schedule → IsTroubleStatus result ⊎ WritesAnswerToFiles source schedule told result old new
   to_bytes source schedule is = by d.said (to_some told before now source schedule d.status d.out (its source schedule is))
     where
-      by : Said → (d.status ≡ 6) ⊎ IsToBytes told before now source schedule d.status d.out → IsTroubleStatus result ⊎ WritesAnswerToBytes source schedule told result old new
+      by : Said → (d.status ≡ 6) ⊎ IsToBytes told before now source schedule d.status d.out → IsTroubleStatus result ⊎ WritesAnswerToFiles source schedule told result old new
       by (inr s) a = inl (inr (inl s.0))
       by (inl s) (inl e) = inl (inl (s.0 ∙ e))
       by (inl s) (inr b) = inr (record {
@@ -213,7 +213,7 @@ module _ (words : List (List ℕ)) (result : ℕ) (told : List ℕ → Option (L
         text = b.text;
         source_is = b.source_is;
         schedule_is = b.schedule_is;
-        answer = record { out = d.out; belongs = subst (λ n. Belongs source schedule b.file b.text n d.out) (sym s.0) b.belongs; written = s.1 };
+        answer = record { out = d.out; belongs = subst (λ n. BelongsToFiles source schedule b.file b.text n d.out) (sym s.0) b.belongs; written = s.1 };
       })
 
   module _ (source schedule file text : List ℕ) (asked : IsAsked words told source schedule file text) where
@@ -221,13 +221,13 @@ module _ (words : List (List ℕ)) (result : ℕ) (told : List ℕ → Option (L
     Gone = Unreadable told before now source schedule file text asked.source_told asked.schedule_told d.status d.out
 
     abbrev Belonging : Type 0
-    Belonging = Belongs source schedule file text d.status d.out
+    Belonging = BelongsToFiles source schedule file text d.status d.out
 
     found : Gone ⊎ Belonging
     found = to_told told before now source schedule file text asked.source_told asked.schedule_told d.status d.out (its source schedule asked.is_row)
 
     writes : result ≡ d.status → Appends old new d.out → Belonging → WritesAnswer source schedule file text result old new
-    writes is written a = record { out = d.out; belongs = subst (λ n. Belongs source schedule file text n d.out) (sym is) a; written = written }
+    writes is written a = record { out = d.out; belongs = subst (λ n. BelongsToFiles source schedule file text n d.out) (sym is) a; written = written }
 
     pub answered : IsTroubleStatus result ⊎ WritesAnswer source schedule file text result old new
     answered = by d.said found
@@ -255,7 +255,7 @@ module _ (words : List (List ℕ)) (result : ℕ) (told : List ℕ → Option (L
         by (inl s) a = absurd (not_seven told before now source schedule d.status d.out (its source schedule asked.is_row) (sym s.0 ∙ seven))
         by (inr s) a = record { out = d.out; is = some a; written = s.1 }
 
-    unread_rose : (name : List ℕ) → IsFirstUnread told before now source schedule name → (Rose (before source) (now source) → ⊥) → (Rose (before schedule) (now schedule) → ⊥) → ⊥
+    unread_rose : (name : List ℕ) → IsFirstOfTwoUnread told before now source schedule name → (Rose (before source) (now source) → ⊥) → (Rose (before schedule) (now schedule) → ⊥) → ⊥
     unread_rose _ (source_unread is) one other = one is.rose
     unread_rose _ (schedule_unread small is) one other = other is.rose
 

@@ -23,33 +23,33 @@ use Rattle.sources.specs.declared.refusal.Ending.{Ending}
 use Rattle.sources.specs.Checking.{IsSourceOf, NoSource}
 use Rattle.sources.proofs.Verdicts.{well_formed_source}
 use Rattle.syntax.specs.Trees.{ProgramTree}
-use Rattle.witness_commands.specs.Answers.{most_states, IsSaid, Refuses, no_source, no_schedule, no_end, IsTold, kept, broken, undecided, WitnessAnswer, refused, told}
+use Rattle.witness_commands.specs.Answers.{most_states, IsSaid, RefusesInput, no_source, no_schedule, no_end, IsToldOfSchedule, kept, broken, undecided, WitnessAnswer, refused, told}
 use Rattle.witness_commands.specs.Sentence.{ShowsBroken}
-use Rattle.witness_commands.specs.Written.{IsAsked, Belongs, source_large, schedule_large, answered, WritesAnswer}
+use Rattle.witness_commands.specs.Written.{IsAsked, BelongsToFiles, source_large, schedule_large, answered, WritesAnswer}
 use Rattle.witness_commands.proofs.Endings.{witness_of, refuses_other}
 
-pub no_source_refuses : (file text : List ℕ) (ended : Ending) (line : List ℕ) → NoSource file ended line → Refuses file text ended line
+pub no_source_refuses : (file text : List ℕ) (ended : Ending) (line : List ℕ) → NoSource file ended line → RefusesInput file text ended line
 no_source_refuses file text ended line is = no_source is
 
-pub no_schedule_refuses : (file text : List ℕ) (source : Source) → IsSourceOf file source → (ended : Ending) (line : List ℕ) → NoSchedule text ended line → Refuses file text ended line
+pub no_schedule_refuses : (file text : List ℕ) (source : Source) → IsSourceOf file source → (ended : Ending) (line : List ℕ) → NoSchedule text ended line → RefusesInput file text ended line
 no_schedule_refuses file text source is ended line says = no_schedule is.0 (program_of source.program) (well_formed_source file is.0 source is.1) says
 
 pub no_end_refuses : (file text : List ℕ) (source : Source) (s : List ℕ) → IsSourceOf file source → IsSchedule text s → (ended : Ending) (line : List ℕ) → NoOrder (program_of source.program) s ended line
-    → Refuses file text ended line
+    → RefusesInput file text ended line
 no_end_refuses file text source s is schedule ended line says = no_end is.0 (program_of source.program) s (the_input file text source s is schedule) says
 
 -- what is told of a schedule, from its verdict
 told_of : (P : Program) (s : List ℕ) (v : Verdict) (status : ℕ) (out : List ℕ) → IsTyped P
-    → ((by : Comparison) → IsTyped P → IsAccepted P → (r : List ℕ) → IsWitnessAs P (IsLike by) r → ⊥) → length s ≤ 200000 → IsVerdict P most_states s v → IsSaid v status out → IsTold P s status out
+    → ((by : Comparison) → IsTyped P → IsAccepted P → (r : List ℕ) → IsWitnessAs P (IsLike by) r → ⊥) → length s ≤ 200000 → IsVerdict P most_states s v → IsSaid v status out → IsToldOfSchedule P s status out
 told_of P s (verdict.Kept r) status out typed law few is says =
     let order = is.2 in
     let long = as_long s r.items order.rearranges in
     let spells = says.2 (omega (arith, long, few)) in
-    subst (λ n. IsTold P s n out) (sym says.0) (subst (IsTold P s 0) (sym says.1) (kept is.0 r.items is.1 order (subst (λ o. IsSchedule o r.items) says.1 spells)))
+    subst (λ n. IsToldOfSchedule P s n out) (sym says.0) (subst (IsToldOfSchedule P s 0) (sym says.1) (kept is.0 r.items is.1 order (subst (λ o. IsSchedule o r.items) says.1 spells)))
 told_of P s (verdict.Broken sense) status out typed law few is says =
-    subst (λ n. IsTold P s n out) (sym says.0) (subst (IsTold P s 2) (sym says.1) (broken sense.by sense.full is (λ accepted. law SameObjects typed accepted s (witness_of P s sense.by sense.full is))))
+    subst (λ n. IsToldOfSchedule P s n out) (sym says.0) (subst (IsToldOfSchedule P s 2) (sym says.1) (broken sense.by sense.full is (λ accepted. law SameObjects typed accepted s (witness_of P s sense.by sense.full is))))
 told_of P s (verdict.Undecided seen) status out typed law few is says =
-    subst (λ n. IsTold P s n out) (sym says.0) (subst (IsTold P s 16) (sym (says.1 ∙ ap undecided_line is.2)) (undecided is.0 is.1))
+    subst (λ n. IsToldOfSchedule P s n out) (sym says.0) (subst (IsToldOfSchedule P s 16) (sym (says.1 ∙ ap undecided_line is.2)) (undecided is.0 is.1))
 
 pub told_answer : (file text : List ℕ) (source : Source) (s : List ℕ) (v : Verdict) (status : ℕ) (out : List ℕ)
     → ((P : Program) (by : Comparison) → IsTyped P → IsAccepted P → (r : List ℕ) → IsWitnessAs P (IsLike by) r → ⊥) → (is : IsSourceOf file source) → IsSchedule text s
@@ -60,7 +60,7 @@ told_answer file text source s v status out law is schedule verdict says =
 
 -- The sentence.
 
-shows_told : (file text : List ℕ) (tree : ProgramTree) (P : Program) (s : List ℕ) (status : ℕ) (out : List ℕ) → IsInput file text tree P s → IsTold P s status out → status ≡ 2 → ShowsBroken file text
+shows_told : (file text : List ℕ) (tree : ProgramTree) (P : Program) (s : List ℕ) (status : ℕ) (out : List ℕ) → IsInput file text tree P s → IsToldOfSchedule P s status out → status ≡ 2 → ShowsBroken file text
 shows_told file text tree P s _ _ input (kept q r ends order spells) two = absurd (omega (arith, two))
 shows_told file text tree P s _ _ input (broken by full is none) two = record {
   tree = tree;
@@ -76,7 +76,7 @@ shows_answer : (file text : List ℕ) (status : ℕ) (out : List ℕ) → Witnes
 shows_answer file text _ _ (refused {ending = ended} {line = line} is) two = absurd (refuses_other file text ended line is two)
 shows_answer file text _ _ (told {status = status} {out = out} tree P s input is) two = shows_told file text tree P s status out input is two
 
-shows : (source schedule file text : List ℕ) (status : ℕ) (out : List ℕ) → Belongs source schedule file text status out → status ≡ 2 → ShowsBroken file text
+shows : (source schedule file text : List ℕ) (status : ℕ) (out : List ℕ) → BelongsToFiles source schedule file text status out → status ≡ 2 → ShowsBroken file text
 shows source schedule file text _ _ (source_large over) two = absurd (omega (arith, two))
 shows source schedule file text _ _ (schedule_large small over) two = absurd (omega (arith, two))
 shows source schedule file text _ _ (answered {status = status} {out = out} within is) two = shows_answer file text status out is two

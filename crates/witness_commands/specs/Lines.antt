@@ -13,8 +13,8 @@ broken_text Output false = codes "no order of its entries that interrupts no ato
 broken_text Objects false = codes "no order of its entries that interrupts no atomic call leaves this"
 
 -- `broken: ..`
-abbrev pub broken_line : Compared → (full : Bool) → List ℕ
-broken_line by full = codes "broken: " ++ broken_text by full ++ line_end
+abbrev pub broken_by_line : Compared → (full : Bool) → List ℕ
+broken_by_line by full = codes "broken: " ++ broken_text by full ++ line_end
 
 -- `not decided: N states were seen`
 abbrev pub undecided_line : ℕ → List ℕ

@@ -5,8 +5,8 @@ use Rattle.sources.specs.Limits.{longest_second_file}
 use Rattle.edge.specs.Faults.{Rose}
 
 -- both files have at most as many bytes as they may have
-abbrev pub AreWithin : (file text : List ℕ) → Type 0
-AreWithin file text = (length file ≤ longest_source) × (length text ≤ longest_second_file)
+abbrev pub AreBothWithin : (file text : List ℕ) → Type 0
+AreBothWithin file text = (length file ≤ longest_source) × (length text ≤ longest_second_file)
 
 -- no file's count of faults changed
 abbrev pub IsQuiet : (before now : List ℕ → ℕ) → Type 0
@@ -33,18 +33,18 @@ module _ (told : List ℕ → Option (List ℕ)) where
       pub quiet : IsQuiet before now
 
     -- the first of the files that couldn't be read
-    pub data IsFirstUnread (source schedule : List ℕ) : List ℕ → Type 0 where
-      source_unread : IsUnread source → IsFirstUnread source schedule source
-      schedule_unread : IsSourceWithin source → IsUnread schedule → IsFirstUnread source schedule schedule
+    pub data IsFirstOfTwoUnread (source schedule : List ℕ) : List ℕ → Type 0 where
+      source_unread : IsUnread source → IsFirstOfTwoUnread source schedule source
+      schedule_unread : IsSourceWithin source → IsUnread schedule → IsFirstOfTwoUnread source schedule schedule
 
     -- the first of the files that has more bytes than it may have
-    pub data IsFirstOver (source schedule : List ℕ) : List ℕ → Type 0 where
-      source_over : IsOver longest_source source → IsFirstOver source schedule source
-      schedule_over : IsSourceWithin source → IsOver longest_second_file schedule → IsFirstOver source schedule schedule
+    pub data IsFirstOfTwoOver (source schedule : List ℕ) : List ℕ → Type 0 where
+      source_over : IsOver longest_source source → IsFirstOfTwoOver source schedule source
+      schedule_over : IsSourceWithin source → IsOver longest_second_file schedule → IsFirstOfTwoOver source schedule schedule
 
     -- both files were read
-    pub record AreRead (source schedule file text : List ℕ) : Type 0 where
+    pub record AreBothRead (source schedule file text : List ℕ) : Type 0 where
       pub source_is : AreBytesOf source file
       pub schedule_is : AreBytesOf schedule text
-      pub within : AreWithin file text
+      pub within : AreBothWithin file text
       pub quiet : IsQuiet before now

@@ -3,13 +3,13 @@ use Rattle.std.specs.Prelude.{◌≡◌, ℕ, List, [], ◌∷◌, ◌++◌, cod
 use Rattle.edge.specs.Lines.{line_end}
 
 -- what is written for words that ask for nothing
-abbrev pub usage_line : List ℕ
-usage_line = codes "usage: atomic_witness FILE SCHEDULE" ++ line_end
+abbrev pub witness_usage_line : List ℕ
+witness_usage_line = codes "usage: atomic_witness FILE SCHEDULE" ++ line_end
 
 -- the words are the names of a source and of a schedule
-abbrev pub IsRow : (words : List (List ℕ)) → (source schedule : List ℕ) → Type 0
-IsRow words source schedule = words ≡ source ∷ schedule ∷ []
+abbrev pub NamesFiles : (words : List (List ℕ)) → (source schedule : List ℕ) → Type 0
+NamesFiles words source schedule = words ≡ source ∷ schedule ∷ []
 
 -- the words ask for nothing
-abbrev pub IsNoRow : List (List ℕ) → Type 0
-IsNoRow words = (source schedule : List ℕ) → IsRow words source schedule → ⊥
+abbrev pub NamesNoFiles : List (List ℕ) → Type 0
+NamesNoFiles words = (source schedule : List ℕ) → NamesFiles words source schedule → ⊥

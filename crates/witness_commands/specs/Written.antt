@@ -10,20 +10,20 @@ use Rattle.sources.specs.Facts.{IsNotWellFormed}
 use Rattle.semantics.specs.Run.{Runs}
 use Rattle.schedule_commands.specs.Schedules.{HasInput, IsWellFormedText, IsNoSchedule, LeavesCallOpen, EndsOutside}
 use Rattle.witness_commands.specs.Answers.{WitnessAnswer, IsKeptEnd, IsWitnessOf}
-use Rattle.witness_commands.specs.Reading.{AreWithin, AreBytesOf, IsFirstUnread}
-use Rattle.witness_commands.specs.Words.{IsRow}
+use Rattle.witness_commands.specs.Reading.{AreBothWithin, AreBytesOf, IsFirstOfTwoUnread}
+use Rattle.witness_commands.specs.Words.{NamesFiles}
 
 -- the words are the names of a source and of a schedule, and the folder tells the bytes of both files
 pub record IsAsked (words : List (List ℕ)) (told : List ℕ → Option (List ℕ)) (source schedule file text : List ℕ) : Type 0 where
-  pub is_row : IsRow words source schedule
+  pub is_row : NamesFiles words source schedule
   pub source_told : told source ≡ Some file
   pub schedule_told : told schedule ≡ Some text
 
 -- the status and the text that belong to the bytes of the files
-pub data Belongs (source schedule file text : List ℕ) : ℕ → List ℕ → Type 0 where
-  source_large : longest_source < length file → Belongs source schedule file text 10 (too_large_line source)
-  schedule_large : length file ≤ longest_source → longest_second_file < length text → Belongs source schedule file text 10 (too_large_line schedule)
-  answered : {status : ℕ} {out : List ℕ} → AreWithin file text → WitnessAnswer file text status out → Belongs source schedule file text status out
+pub data BelongsToFiles (source schedule file text : List ℕ) : ℕ → List ℕ → Type 0 where
+  source_large : longest_source < length file → BelongsToFiles source schedule file text 10 (too_large_line source)
+  schedule_large : length file ≤ longest_source → longest_second_file < length text → BelongsToFiles source schedule file text 10 (too_large_line schedule)
+  answered : {status : ℕ} {out : List ℕ} → AreBothWithin file text → WitnessAnswer file text status out → BelongsToFiles source schedule file text status out
 
 -- the status comes only where the fact holds; and where it does, the status comes, or 16 in its place, or one of the answers that come
 -- before all others
@@ -37,23 +37,23 @@ pub record Decides (result status : ℕ) (fact : Type 0) : Type 0 where
 -- many states were seen by then.
 pub record IsExact (file text : List ℕ) (result : ℕ) : Type 0 where
   pub too_large : Exactly result 10 ((longest_source < length file) ⊎ (longest_second_file < length text))
-  pub refused : Exactly result 1 (AreWithin file text × IsNotWellFormed file)
-  pub no_schedule : Exactly result 3 (AreWithin file text × IsWellFormedText file × IsNoSchedule text)
-  pub stopped : Exactly result 4 (AreWithin file text × HasInput file text (λ P s. Runs P s → ⊥))
-  pub inside : Exactly result 5 (AreWithin file text × HasInput file text LeavesCallOpen)
-  pub kept : Decides result 0 (AreWithin file text × HasInput file text IsKeptEnd)
-  pub broken : Decides result 2 (AreWithin file text × HasInput file text IsWitnessOf)
-  pub undecided : result ≡ 16 → AreWithin file text × HasInput file text EndsOutside
+  pub refused : Exactly result 1 (AreBothWithin file text × IsNotWellFormed file)
+  pub no_schedule : Exactly result 3 (AreBothWithin file text × IsWellFormedText file × IsNoSchedule text)
+  pub stopped : Exactly result 4 (AreBothWithin file text × HasInput file text (λ P s. Runs P s → ⊥))
+  pub inside : Exactly result 5 (AreBothWithin file text × HasInput file text LeavesCallOpen)
+  pub kept : Decides result 0 (AreBothWithin file text × HasInput file text IsKeptEnd)
+  pub broken : Decides result 2 (AreBothWithin file text × HasInput file text IsWitnessOf)
+  pub undecided : result ≡ 16 → AreBothWithin file text × HasInput file text EndsOutside
 
 -- the text that belongs to the files and the status was written
 pub record WritesAnswer (source schedule file text : List ℕ) (status : ℕ) (old new : Option (List ℕ)) : Type 0 where
   pub out : List ℕ
-  pub belongs : Belongs source schedule file text status out
+  pub belongs : BelongsToFiles source schedule file text status out
   pub written : Appends old new out
 
 -- the files have bytes, which are those that are told where the folder tells them, and the text that belongs to these and the status
 -- was written
-pub record WritesAnswerToBytes (source schedule : List ℕ) (told : List ℕ → Option (List ℕ)) (status : ℕ) (old new : Option (List ℕ)) : Type 0 where
+pub record WritesAnswerToFiles (source schedule : List ℕ) (told : List ℕ → Option (List ℕ)) (status : ℕ) (old new : Option (List ℕ)) : Type 0 where
   pub file : List ℕ
   pub text : List ℕ
   pub source_is : AreBytesOf told source file
@@ -62,8 +62,8 @@ pub record WritesAnswerToBytes (source schedule : List ℕ) (told : List ℕ →
 
 -- the text that belongs to some status, or the line of a file that couldn't be read
 pub data IsSomeText (source schedule file text : List ℕ) (told : List ℕ → Option (List ℕ)) (before now : List ℕ → ℕ) : List ℕ → Type 0 where
-  some_unread : (name : List ℕ) → IsFirstUnread told before now source schedule name → IsSomeText source schedule file text told before now (cannot_read_line name)
-  some_answer : (status : ℕ) (out : List ℕ) → Belongs source schedule file text status out → IsSomeText source schedule file text told before now out
+  some_unread : (name : List ℕ) → IsFirstOfTwoUnread told before now source schedule name → IsSomeText source schedule file text told before now (cannot_read_line name)
+  some_answer : (status : ℕ) (out : List ℕ) → BelongsToFiles source schedule file text status out → IsSomeText source schedule file text told before now out
 
 -- a front of such a text was written
 pub record WritesFront (source schedule file text : List ℕ) (told : List ℕ → Option (List ℕ)) (before now : List ℕ → ℕ) (old new : Option (List ℕ)) : Type 0 where

@@ -10,8 +10,8 @@ ghost use Rattle.witness.specs.Verdicts.{IsVerdict, IsNoVerdict};
 ghost use Rattle.schedule_commands.specs.Schedules.{NoOrder};
 ghost use Rattle.sources.specs.Checking.{IsSourceOf};
 ghost use Rattle.sources.specs.Refusals.{IsRight, Tells};
-ghost use Rattle.report.specs.Schedules.{stopped_line, open_line};
-ghost use Rattle.witness_commands.specs.Answers.{IsSaid, Refuses, WitnessAnswer, most_states};
+ghost use Rattle.report.specs.Schedules.{stopped_line, inside_call_line};
+ghost use Rattle.witness_commands.specs.Answers.{IsSaid, RefusesInput, WitnessAnswer, most_states};
 
 use crate::lines::{broken_line, undecided_line};
 use compile::compile;
@@ -47,7 +47,7 @@ fn refuse_stop(alloc: Global, stopped: &Stopped) -> Refusal
 
 /// The refusal of a schedule at whose end this is the least thread inside an atomic call.
 fn refuse_open(alloc: Global, thread: u32) -> Refusal
-    ensures { Tells Ending.Open (open_line thread) result }
+    ensures { Tells Ending.Open (inside_call_line thread) result }
 {
     match open_text(alloc, thread) {
         Ok(line) => Refusal::Line(Ending::Open, line),
@@ -111,7 +111,7 @@ fn answered_source(alloc: Global, source: &Source, text: &[u8]) -> Result<Said, 
     requires source { (file : List ℕ) × IsSourceOf file source.now }
     requires text { length text.now ≤ longest_second_file }
     ensures { (file : List ℕ) → IsSourceOf file source.now →
-        MatchResult result (λ said. WitnessAnswer file text.now said.status (string_bytes said.text)) (IsRight (Refuses file text.now)) }
+        MatchResult result (λ said. WitnessAnswer file text.now said.status (string_bytes said.text)) (IsRight (RefusesInput file text.now)) }
 {
     witness_laws();
     let schedule = schedule_of(alloc, text)?;
@@ -123,7 +123,7 @@ fn answered_source(alloc: Global, source: &Source, text: &[u8]) -> Result<Said, 
 fn answered(alloc: Global, file: &[u8], text: &[u8]) -> Result<Said, Refusal>
     requires file { length file.now ≤ longest_source }
     requires text { length text.now ≤ longest_second_file }
-    ensures { MatchResult result (λ said. WitnessAnswer file.now text.now said.status (string_bytes said.text)) (IsRight (Refuses file.now text.now)) }
+    ensures { MatchResult result (λ said. WitnessAnswer file.now text.now said.status (string_bytes said.text)) (IsRight (RefusesInput file.now text.now)) }
 {
     let source = read_source(alloc, file)?;
     let out = answered_source(alloc, &source, text);

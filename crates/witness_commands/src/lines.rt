@@ -1,7 +1,7 @@
 //! The lines that tell of a schedule.
 
 ghost use Rattle.std.specs.Prelude.{◌≡◌, IfOk, string_bytes};
-ghost use Rattle.witness_commands.specs.Lines.{broken_text, broken_line, undecided_line};
+ghost use Rattle.witness_commands.specs.Lines.{broken_text, broken_by_line, undecided_line};
 
 use edge::joined;
 use report::write_number;
@@ -35,7 +35,7 @@ fn broken_text(sense: Sense) -> &'static str
 
 /// The line for a schedule whose promises are broken in this sense.
 pub(crate) fn broken_line(alloc: Global, sense: Sense) -> Result<String, NoMemory>
-    ensures { IfOk result (λ line. string_bytes line ≡ broken_line sense.by sense.full) }
+    ensures { IfOk result (λ line. string_bytes line ≡ broken_by_line sense.by sense.full) }
 {
     joined(alloc, &["broken: ", broken_text(sense), "\n"])
 }

@@ -7,11 +7,11 @@ ghost use Rattle.edge.specs.Calls.{call_record};
 ghost use Rattle.edge.specs.Lines.{cannot_read_line, too_large_line};
 ghost use Rattle.edge.specs.Said.{SaysText, IsTroubleStatus};
 ghost use Rattle.witness_commands.specs.Answers.{WitnessAnswer};
-ghost use Rattle.witness_commands.specs.Outcomes.{IsOutcome, IsUnreadLine};
-ghost use Rattle.witness_commands.specs.Reading.{AreWithin, IsFirstOver, IsFirstUnread, IsQuiet};
+ghost use Rattle.witness_commands.specs.Outcomes.{IsWitnessOutcome, IsUnreadLine};
+ghost use Rattle.witness_commands.specs.Reading.{AreBothWithin, IsFirstOfTwoOver, IsFirstOfTwoUnread, IsQuiet};
 ghost use Rattle.witness_commands.specs.Sentence.{Witnesses};
-ghost use Rattle.witness_commands.specs.Words.{IsRow, IsNoRow, usage_line};
-ghost use Rattle.witness_commands.specs.Written.{IsAsked, IsExact, WritesAnswer, WritesAnswerToBytes, WritesFront};
+ghost use Rattle.witness_commands.specs.Words.{NamesFiles, NamesNoFiles, witness_usage_line};
+ghost use Rattle.witness_commands.specs.Written.{IsAsked, IsExact, WritesAnswer, WritesAnswerToFiles, WritesFront};
 
 use crate::answering::judge_files;
 use crate::lines::USAGE;
@@ -51,7 +51,7 @@ fn unread(alloc: Global, name: &str, end: ReadEnd) -> Result<Outcome, NoMemory>
 
 /// The status and the text for the bytes of both files.
 fn judged(alloc: Global, file: &[u8], text: &[u8]) -> Result<Outcome, NoMemory>
-    requires within { AreWithin file.now text.now }
+    requires within { AreBothWithin file.now text.now }
     ensures { IfOk result (λ o. WitnessAnswer file.now text.now o.status (string_bytes o.text)) }
 {
     let said = judge_files(alloc, file, text)?;
@@ -68,7 +68,7 @@ fn perform<F: Folder>(
     source: &str,
     schedule: &str,
 ) -> Result<Outcome, NoMemory>
-    ensures { IfOk result (λ o. IsOutcome source.now schedule.now (F.told folder.old) (F.faults folder.old) (F.faults folder.new) o.status (string_bytes o.text)) }
+    ensures { IfOk result (λ o. IsWitnessOutcome source.now schedule.now (F.told folder.old) (F.faults folder.old) (F.faults folder.new) o.status (string_bytes o.text)) }
 {
     let file = match read_file(alloc, folder, source, LARGEST_SOURCE) {
         Ok(bytes) => bytes,
@@ -90,14 +90,14 @@ fn perform<F: Folder>(
 /// 16, as many states were seen as may be.
 pub fn run<F: Folder, K: Sink>(alloc: Global, words: &[String], folder: &mut F, sink: &mut K) -> u8
     // Words that ask for nothing: this path takes no memory, so it never answers 8.
-    ensures usage { IsNoRow (map string_bytes words.now) → SaysText result 9 usage_line (K.written sink.old) (K.written sink.new) (K.faults sink.old) (K.faults sink.new) }
-    ensures usage_only { result ≡ 9 → IsNoRow (map string_bytes words.now) }
+    ensures usage { NamesNoFiles (map string_bytes words.now) → SaysText result 9 witness_usage_line (K.written sink.old) (K.written sink.new) (K.faults sink.old) (K.faults sink.new) }
+    ensures usage_only { result ≡ 9 → NamesNoFiles (map string_bytes words.now) }
 
     // The source is read before the schedule, and the first refusal is the answer; else none failed.
-    ensures cannot_read { (source schedule : List ℕ) → IsRow (map string_bytes words.now) source schedule → result ≡ 6 →
-        (name : List ℕ) × IsFirstUnread (F.told folder.old) (F.faults folder.old) (F.faults folder.new) source schedule name × Appends (K.written sink.old) (K.written sink.new) (cannot_read_line name) }
-    ensures too_large { (source schedule : List ℕ) → IsRow (map string_bytes words.now) source schedule → result ≡ 10 →
-        (name : List ℕ) × IsFirstOver (F.told folder.old) (F.faults folder.old) (F.faults folder.new) source schedule name × Appends (K.written sink.old) (K.written sink.new) (too_large_line name) }
+    ensures cannot_read { (source schedule : List ℕ) → NamesFiles (map string_bytes words.now) source schedule → result ≡ 6 →
+        (name : List ℕ) × IsFirstOfTwoUnread (F.told folder.old) (F.faults folder.old) (F.faults folder.new) source schedule name × Appends (K.written sink.old) (K.written sink.new) (cannot_read_line name) }
+    ensures too_large { (source schedule : List ℕ) → NamesFiles (map string_bytes words.now) source schedule → result ≡ 10 →
+        (name : List ℕ) × IsFirstOfTwoOver (F.told folder.old) (F.faults folder.old) (F.faults folder.new) source schedule name × Appends (K.written sink.old) (K.written sink.new) (too_large_line name) }
     ensures quiet { IsTroubleStatus result ⊎ IsQuiet (F.faults folder.old) (F.faults folder.new) }
 
     // A sink that fails, want of memory.
@@ -105,8 +105,8 @@ pub fn run<F: Folder, K: Sink>(alloc: Global, words: &[String], folder: &mut F, 
     ensures no_memory { result ≡ 8 → Keeps (K.written sink.old) (K.written sink.new) }
 
     // Whether or not the folder tells the files: they have bytes to which status and text are the answer.
-    ensures bytes { (source schedule : List ℕ) → IsRow (map string_bytes words.now) source schedule →
-        IsTroubleStatus result ⊎ WritesAnswerToBytes source schedule (F.told folder.old) result (K.written sink.old) (K.written sink.new) }
+    ensures bytes { (source schedule : List ℕ) → NamesFiles (map string_bytes words.now) source schedule →
+        IsTroubleStatus result ⊎ WritesAnswerToFiles source schedule (F.told folder.old) result (K.written sink.old) (K.written sink.new) }
 
     // The files are told: each status comes where its fact holds, and the text is the one that belongs to it.
     ensures exact { (source schedule file text : List ℕ) → IsAsked (map string_bytes words.now) (F.told folder.old) source schedule file text → IsExact file text result }

@@ -1,7 +1,7 @@
 //! The words of the command line.
 
 ghost use Rattle.std.specs.Prelude.{◌≡◌, ◌≢◌, ◌∷◌, [], ℕ, List, map, MatchOption, string_bytes};
-ghost use Rattle.witness_commands.specs.Words.{IsRow, IsNoRow};
+ghost use Rattle.witness_commands.specs.Words.{NamesFiles, NamesNoFiles};
 
 /// The only one of these words.
 fn only_word(words: &[String]) -> Option<&str>
@@ -17,7 +17,7 @@ fn only_word(words: &[String]) -> Option<&str>
 
 /// The names of a source and of a schedule, where the words are these.
 pub fn names_of(words: &[String]) -> Option<(&str, &str)>
-    ensures { MatchOption result (IsNoRow (map string_bytes words.now)) (λ names. IsRow (map string_bytes words.now) names.0.now names.1.now) }
+    ensures { MatchOption result (NamesNoFiles (map string_bytes words.now)) (λ names. NamesFiles (map string_bytes words.now) names.0.now names.1.now) }
 {
     let (source, rest) = words.split_first()?;
     let schedule = only_word(rest)?;

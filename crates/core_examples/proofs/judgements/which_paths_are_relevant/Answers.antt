@@ -2,7 +2,7 @@ use Rattle.std.proofs.Common.{refl, [], ◌∷◌, arith}
 use Rattle.core_program.specs.Core.{ThisE, no_exprs, and_expr}
 use Rattle.rules.specs.Near.{Near, required, locked, guarded, called, overriding, named}
 use Rattle.core_examples.specs.Fields.{path, of_this}
-use Rattle.core_examples.specs.Judged.{meetings, first}
+use Rattle.core_examples.specs.Judged.{meetings, final_slot}
 use Rattle.core_examples.proofs.Sweep.{relevant_rows}
 use Rattle.core_examples.proofs.judgements.which_paths_are_relevant.Goals as goal
 
@@ -28,7 +28,7 @@ returns c = relevant_rows meetings (
             (
               (
                 called (of_this 3) 1 no_exprs (path 0 (0 ∷ [])) (_, refl, (0, omega arith, refl)) take (_, refl, omega arith) refl,
-                (called ThisE 0 (and_expr first no_exprs) (path 1 []) (_, refl, (2, omega arith, refl)) need (_, refl, omega arith) refl, tt),
+                (called ThisE 0 (and_expr final_slot no_exprs) (path 1 []) (_, refl, (2, omega arith, refl)) need (_, refl, omega arith) refl, tt),
               ),
               (
                 (second, (behind, tt)),
@@ -54,7 +54,7 @@ returns c = relevant_rows meetings (
 
     -- the guard is that of the local, and by its value that of the field
     behind : Near meetings 5 (path 1 [])
-    behind = guarded first 4 (_, refl, (2, omega arith, refl)) refl
+    behind = guarded final_slot 4 (_, refl, (2, omega arith, refl)) refl
 
     second : Near meetings 5 (path 0 (0 ∷ []))
     second = named (path 1 []) (of_this 0) (path 0 (0 ∷ [])) behind (_, refl, (0, omega arith, refl)) refl refl

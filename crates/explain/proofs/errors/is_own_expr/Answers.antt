@@ -9,7 +9,7 @@ use Rattle.effects.specs.Parts.{ExprP}
 use Rattle.rules.specs.Effect.{held_under}
 use Rattle.rules.specs.Mentions.{paths_of}
 use Rattle.rules.specs.Near.{rel_of}
-use Rattle.explain.specs.Explaining.{is_own}
+use Rattle.explain.specs.Explaining.{is_error_of_part}
 use Rattle.explain.proofs.errors.is_own_expr.Goals as goal
 
 pub returns-in_ok-known-in-Call : goal.returns-in_ok-known-in-Call
@@ -20,4 +20,4 @@ returns-in_ok-known-in-Call g c =
     ap has_path c.as_slice-in-Call.ensures.value ∙ c.in_ok-known-in-Call.ensures
     ∙ (λ i. held_under (rel m) (path_of P (expr_of (c.deref.ensures i))) (paths_of P (exprs_from (c.as_slice.ensures.value i))) H) in
     ap not (c.has_all.ensures ∙ (λ i. list_all (known i) (c.required_of.ensures i)))
-    ∙ ap (λ z. is_own P rel (ExprP z) H) (sym (ap expr_of c.in-Call.is ∙ expr_of-Call c.in-Call.receiver c.in-Call.callee c.in-Call.args))
+    ∙ ap (λ z. is_error_of_part P rel (ExprP z) H) (sym (ap expr_of c.in-Call.is ∙ expr_of-Call c.in-Call.receiver c.in-Call.callee c.in-Call.args))

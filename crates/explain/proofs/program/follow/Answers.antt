@@ -5,7 +5,7 @@ use Rattle.core_program.specs.Views.{method_of, program_of}
 use Rattle.rules.specs.Near.{rel_of}
 use Rattle.rules.specs.Search.{row_at}
 use Rattle.explain.specs.Views.{explained_data}
-use Rattle.explain.specs.Programs.{IsNext}
+use Rattle.explain.specs.Programs.{IsToldNext}
 use Rattle.explain.proofs.Following.{follows_first, follows_more}
 use Rattle.explain.proofs.program.follow.Goals as goal
 
@@ -22,6 +22,6 @@ loop-preserved g c =
     follows_more P (rel_of c.args.walk.now.sets.now) A (row_at c.args.over.now) c.args.most c.loop.counter c.args.first c.args.told.now.items (map explained_data c.args.all.now.items)
     c.loop.next c.loop.told.items (map explained_data c.loop.all.items) c.in-Some.found.id method (explained_data c.in_ok-x.x) c.led_to-next.result
     (slice_set c.loop.told.items c.id.inside.0 true) (map explained_data c.push.new.self.items) c.loop-test.true c.loop.invariant
-    (subst (λ t. IsNext P A t c.loop.next c.in-Some.found.id method) c.as_slice.ensures.value c.in-Some.ensures.some)
+    (subst (λ t. IsToldNext P A t c.loop.next c.in-Some.found.id method) c.as_slice.ensures.value c.in-Some.ensures.some)
     c.in_ok-x.ensures c.led_to-next.ensures (ap (λ k. slice_set c.loop.told.items k true) c.id.view_is)
     (ap (map explained_data) c.in_ok-push.ensures.items ∙ map-append explained_data c.loop.all.items (c.in_ok-x.x ∷ []))

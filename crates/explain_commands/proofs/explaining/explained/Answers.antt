@@ -5,7 +5,7 @@ use Rattle.classes.specs.Views.{table_data}
 use Rattle.core_program.specs.Views.{program_of}
 use Rattle.explain.specs.Views.{explained_data}
 use Rattle.explain_commands.specs.Answers.{Explains}
-use Rattle.explain_commands.specs.Explained.{AreTexts, AreWithin, page_of}
+use Rattle.explain_commands.specs.Explained.{AreTexts, AreAmongMethods, page_of}
 use Rattle.explain_commands.proofs.Breaking.{all_there, within_more}
 use Rattle.explain_commands.proofs.Writing.{seen_in}
 use Rattle.rules.specs.Near.{rel_of}
@@ -19,7 +19,7 @@ lines_of-requires g c =
     let n = length c.args.told.now.methods.now.items in
     let there = within_more (length P.methods) n _ c.requires.there (all_there P (rel_of c.args.walk.now.sets.now) (g.A.Assigned.assigned c.args.walk.now.assigned.now) (row_at c.in_ok-over.over)) in
     let are = seen_in c.as_slice.result.now c.in_ok-all.all.items _ c.as_slice.ensures.value c.in_ok-all.ensures in
-    subst (AreWithin n) (sym are) there
+    subst (AreAmongMethods n) (sym are) there
 
 pub returns : goal.returns
 returns g c =

@@ -2,7 +2,7 @@
 use Rattle.std.proofs.Common.{◌∙◌, ap, arith, refl, subst, sym}
 use Rattle.logs.specs.Stops.{stand_of}
 use Rattle.logs.specs.Views.{guards_data}
-use Rattle.log_reading.specs.Reading.{HasRead}
+use Rattle.log_reading.specs.Reading.{HasReadSoFar}
 use Rattle.log_reading.proofs.Chunks.{read_none, read_more, stopped_so}
 use Rattle.log_reading.proofs.reading.walk_file.Goals as goal
 
@@ -12,7 +12,7 @@ chunks-init g c =
     let told = g.F.Folder.told c.args.folder.now c.args.name.now in
     let first = ap (λ s. s.line) c.requires.start in
     record {
-      read = subst (HasRead guard told 0) (sym c.requires.start) (read_none guard told);
+      read = subst (HasReadSoFar guard told 0) (sym c.requires.start) (read_none guard told);
       line = omega (arith, first);
       told = λ other. refl;
       calm = λ other. refl;

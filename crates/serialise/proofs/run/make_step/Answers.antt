@@ -3,7 +3,7 @@ use Rattle.std.proofs.lemmas.Result.{err_from_is_err_and}
 use Rattle.core_program.specs.Views.{program_of}
 use Rattle.semantics.specs.Step.{outcome}
 use Rattle.machine.specs.Standing.{program_run}
-use Rattle.serialise.specs.Tables.{value_at}
+use Rattle.serialise.specs.Tables.{value_or}
 use Rattle.serialise.proofs.Running.{was_made, was_refused, only_memory, told_turn, left_same}
 use Rattle.serialise.proofs.run.make_step.Goals as goal
 
@@ -14,7 +14,7 @@ returns-in_err-kind-clause-refused c =
 
 pub returns-in-Ok-clause-made : goal.returns-in-Ok-clause-made
 returns-in-Ok-clause-made c q stands are =
-    was_made (program_run c.args.machine.now) c.args.thread q c.step_kind.new.self c.in_ok-kind.kind c.in-Ok.step (value_at 0 c.args.calls.now.items) (value_at 0 c.note_step.new.calls.items) c.frames_at-before.result
+    was_made (program_run c.args.machine.now) c.args.thread q c.step_kind.new.self c.in_ok-kind.kind c.in-Ok.step (value_or 0 c.args.calls.now.items) (value_or 0 c.note_step.new.calls.items) c.frames_at-before.result
     (outcome (program_run c.args.machine.now) q c.args.thread) refl (ap program_of c.step_kind.ensures.program) are (c.frames_at-before.ensures q stands) (c.in_ok-kind.ensures.turn q stands) c.in-Ok.ensures.step c.in-Ok.ensures.calls
 
 pub returns-in-Err-clause-refused : goal.returns-in-Err-clause-refused

@@ -1,6 +1,6 @@
 use Rattle.std.proofs.Common.{[], ap}
 use Rattle.replay.specs.Answers.{then_do, completed_normally, in_turn}
-use Rattle.replay.specs.Evaluation.{take_lock, locked, start_run, lower_of, stmt}
+use Rattle.replay.specs.Evaluation.{take_lock, locked, start_thread, lower_of, stmt}
 use Rattle.core_program.specs.Core.{WhileS, SyncS, EmptyS}
 use Rattle.semantics.specs.Step.{object_class, run_of}
 use Rattle.core_examples.specs.Fields.{path}
@@ -18,4 +18,4 @@ pub returns-clause-held_lock : goal.returns-clause-held_lock
 returns-clause-held_lock c = ap (λ h. then_do (take_lock 5 there h quiet) (λ _ r. locked 5 there (completed_normally own_slots r))) lock_is
 
 pub returns-clause-started : goal.returns-clause-started
-returns-clause-started c = ap (λ o. then_do (start_run here (run_of four_fields (object_class o)) quiet) (λ _ s. completed_normally own_slots s)) object_is
+returns-clause-started c = ap (λ o. then_do (start_thread here (run_of four_fields (object_class o)) quiet) (λ _ s. completed_normally own_slots s)) object_is

@@ -5,7 +5,7 @@ use Rattle.syntax.specs.Views.{class_of, member_of}
 use Rattle.typing.specs.Entries.{HaveEntries, fields_after, methods_after}
 use Rattle.typing.specs.Gathered.{appended}
 use Rattle.typing.specs.Noted.{type_noted}
-use Rattle.typing.specs.Programs.{all_there, fields_core, methods_core, member_type_faults, type_faults_from, all_core_fields, all_methods}
+use Rattle.typing.specs.Programs.{all_there, fields_core, methods_core, member_type_faults, type_faults_from, all_core_fields, all_core_methods}
 use Rattle.typing.specs.BodyViews.{fields_data, methods_data}
 use Rattle.typing.proofs.Adding.{class_fields_step, class_methods_step, class_fault, all_entries_next, all_entries_step}
 use Rattle.typing.proofs.members.parts_of.Goals as goal
@@ -21,7 +21,7 @@ loop-class-preserved c =
           (ap (λ l. l.inherited) (same_Some _ _ (sym c.value_of.ensures ∙ c.requires.lineages k (omega (arith, c.loop-class.invariant.3, c.loop-class-test.true, c.requires.many)))))
           c.in_ok-number.ensures,
       class_methods_step T c.args.classes.now c.loop-class.class-index k c.in_ok-number.number c.class-item.result
-          (methods_data c.loop-class.parts) (methods_data c.add_members.new.parts) (all_there (all_methods T 0 (map class_of c.args.classes.now)))
+          (methods_data c.loop-class.parts) (methods_data c.add_members.new.parts) (all_there (all_core_methods T 0 (map class_of c.args.classes.now)))
           c.loop-class-test.true c.class-item.is c.loop-class.invariant.1
           (c.in_ok-add_members.ensures.methods ∙ ap (λ z. appended (methods_data c.loop-class.parts) (all_there (methods_core T k (map member_of z)))) c.as_slice.ensures.value)
           c.in_ok-number.ensures,

@@ -2,7 +2,7 @@
 use Rattle.std.proofs.Common.{subst, arith}
 use Rattle.std.proofs.lemmas.Result.{IfOk-weaker}
 use Rattle.witness.specs.Nodes.{IsChild}
-use Rattle.witness.specs.Searching.{IsAdded, IsFollowed}
+use Rattle.witness.specs.Searching.{IsNodeAdded, IsFollowed}
 use Rattle.witness.proofs.SearchLemmas.{node_at, child_node, child_few, child_followed, none_leads}
 use Rattle.witness.proofs.search.follow.Goals as goal
 
@@ -37,7 +37,7 @@ returns-in-Some-clause-followed c =
     let there = node_at nodes n c.args.place (omega (arith, c.requires.within, c.args.nodes.now.ok)) c.index.ensures in
     let s = c.args.search.now in
     let new = c.add.new.nodes.items in
-    IfOk-weaker c.add.result (IsAdded s nodes new c.in-Some.node) (IsFollowed s nodes new c.args.place c.args.thread)
+    IfOk-weaker c.add.result (IsNodeAdded s nodes new c.in-Some.node) (IsFollowed s nodes new c.args.place c.args.thread)
     (λ room added. child_followed s nodes n c.args.place c.args.thread there c.requires.nodes new c.in-Some.node room (subst (IsChild s.counted n c.args.thread) c.in-Some.is c.in_ok-node.ensures) added)
     c.add.ensures.added
 

@@ -1,7 +1,7 @@
 -- A refusal is an answer.
 use Rattle.std.proofs.Common.{sym, subst, string_bytes}
 use Rattle.sources.specs.Refusals.{IsRight}
-use Rattle.witness_commands.specs.Answers.{Refuses, WitnessAnswer, refused}
+use Rattle.witness_commands.specs.Answers.{RefusesInput, WitnessAnswer, refused}
 use Rattle.witness_commands.proofs.answering.judge_files.Goals as goal
 
 pub returns-in-Err-Line : goal.returns-in-Err-Line
@@ -9,4 +9,4 @@ returns-in-Err-Line c =
     let file = c.args.file.now in
     let text = c.args.text.now in
     subst (λ status. WitnessAnswer file text status (string_bytes c.in-Err-Line.line)) (sym c.code.ensures)
-    (refused (subst (IsRight (Refuses file text)) c.in-Err-Line.field-0-is c.in-Err-Line.ensures))
+    (refused (subst (IsRight (RefusesInput file text)) c.in-Err-Line.field-0-is c.in-Err-Line.ensures))

@@ -1,7 +1,7 @@
 -- Each refusal is right.
 use Rattle.std.proofs.Common.{◌≡◌, Some, subst}
 use Rattle.machine.specs.Standing.{IsStopped}
-use Rattle.report.specs.Schedules.{stopped_line, open_line}
+use Rattle.report.specs.Schedules.{stopped_line, inside_call_line}
 use Rattle.schedule_commands.specs.Schedules.{NoOrder, stopped, no_run, open_call}
 use Rattle.semantics.specs.Run.{run, open_thread}
 use Rattle.sources.proofs.Told.{right_refusal}
@@ -25,4 +25,4 @@ returns-in-Stopped c = λ P s is.
 pub returns-in-Open : goal.returns-in-Open
 returns-in-Open c = λ P s is.
     let at : (q : State) × (run P s ≡ Some q) × (open_thread P q ≡ Some c.in-Open.thread) = subst (IsNoVerdict P s) c.in-Open.is is in
-    right_refusal (NoOrder P s) ending.Open (open_line c.in-Open.thread) c.refuse_open.result (open_call at.0 c.in-Open.thread at.1 at.2) c.refuse_open.ensures
+    right_refusal (NoOrder P s) ending.Open (inside_call_line c.in-Open.thread) c.refuse_open.result (open_call at.0 c.in-Open.thread at.1 at.2) c.refuse_open.ensures
