@@ -11,11 +11,12 @@ ghost use Rattle.effects.specs.Bodies.{part_of};
 ghost use Rattle.effects.specs.Rules.{block_value_at, choice_value, expr_rule_in, in_sequence, lock_value, loop_value, rule_in, stmt_rule_in, AreAllKnown};
 
 use crate::accesses::access;
+use crate::calls::Called;
 use crate::context::Context;
 use crate::parts::BodyPart;
 use algebra::{Algebra, Basic};
 use core_program::{CoreExpr, CoreStmt};
-use paths::{FieldId, MethodId, Path};
+use paths::{FieldId, Path};
 use std::alloc::{AllocError as NoMemory, Global};
 
 /// Values one after another. Their number is that of a call's arguments at most, so the recursion isn't deep.
@@ -66,24 +67,37 @@ fn then_basic<G: Algebra>(
     algebra.seq(alloc, &first, &last)
 }
 
+/// Reading or writing a field of a receiver.
+#[derive(Clone, Copy)]
+struct FieldAccess<'a> {
+    receiver: &'a CoreExpr,
+    field: FieldId,
+    writes: bool,
+}
+
 /// Values one after another, and then reading or writing a field of a receiver.
 fn then_access<G: Algebra, C: Context<G>>(
     alloc: Global,
     context: &C,
     algebra: &mut G,
     values: &[G::A],
-    receiver: &CoreExpr,
-    field: FieldId,
-    writes: bool,
+    at: &FieldAccess<'_>,
 ) -> Result<G::A, NoMemory>
     requires { AreAllKnown G.IsKnown algebra.old values.now }
     ensures known { IfOk result (λ r. G.IsKnown algebra.new r) }
     ensures value { IfOk result (λ r. (H : Held) → let P = C.plain context.now in
-        G.value algebra.new r H ≡ seq_of (in_sequence (map (G.value algebra.old) values.now) H) (access_of P writes field (path_of P (expr_of receiver.now)) H)) }
+        G.value algebra.new r H ≡ seq_of (in_sequence (map (G.value algebra.old) values.now) H) (access_of P at.now.writes at.now.field (path_of P (expr_of at.now.receiver.now)) H)) }
     ensures keeps { Keeps G.IsKnown G.value algebra.old algebra.new }
 {
     let first = sequence(alloc, algebra, values)?;
-    let last = access(alloc, context.program(), algebra, receiver, field, writes)?;
+    let last = access(
+        alloc,
+        context.program(),
+        algebra,
+        at.receiver,
+        at.field,
+        at.writes,
+    )?;
     algebra.seq(alloc, &first, &last)
 }
 
@@ -93,20 +107,18 @@ fn then_call<G: Algebra, C: Context<G>>(
     context: &C,
     algebra: &mut G,
     values: &[G::A],
-    receiver: &CoreExpr,
-    callee: MethodId,
-    args: &[CoreExpr],
+    call: &Called<'_>,
 ) -> Result<G::A, NoMemory>
     requires ready { C.IsReady context.now }
     requires values { AreAllKnown G.IsKnown algebra.old values.now }
     ensures known { IfOk result (λ r. G.IsKnown algebra.new r) }
     ensures value { IfOk result (λ r. (H : Held) → let P = C.plain context.now in
         G.value algebra.new r H ≡ seq_of (in_sequence (map (G.value algebra.old) values.now) H)
-        (C.called context.now callee (path_of P (expr_of receiver.now)) (paths_of P (exprs_from args.now)) H)) }
+        (C.called context.now call.now.callee (path_of P (expr_of call.now.receiver.now)) (paths_of P (exprs_from call.now.args.now)) H)) }
     ensures keeps { Keeps G.IsKnown G.value algebra.old algebra.new }
 {
     let first = sequence(alloc, algebra, values)?;
-    let last = context.call_value(alloc, algebra, receiver, callee, args)?;
+    let last = context.call_value(alloc, algebra, call.receiver, call.callee, call.args)?;
     algebra.seq(alloc, &first, &last)
 }
 
@@ -137,17 +149,21 @@ fn expr_rule<G: Algebra, C: Context<G>>(
         | CoreExpr::And(_, _)
         | CoreExpr::Or(_, _) => sequence(alloc, algebra, values),
         CoreExpr::Get(receiver, field) => {
-            then_access(alloc, context, algebra, values, receiver, *field, false)
+            let read = FieldAccess {
+                receiver,
+                field: *field,
+                writes: false,
+            };
+            then_access(alloc, context, algebra, values, &read)
         }
-        CoreExpr::Call(receiver, callee, args) => then_call(
-            alloc,
-            context,
-            algebra,
-            values,
-            receiver,
-            *callee,
-            args.as_slice(),
-        ),
+        CoreExpr::Call(receiver, callee, args) => {
+            let call = Called {
+                receiver,
+                callee: *callee,
+                args: args.as_slice(),
+            };
+            then_call(alloc, context, algebra, values, &call)
+        }
         CoreExpr::New(_, _) => then_basic(alloc, algebra, values, Basic::Mover),
     }
 }
@@ -275,7 +291,12 @@ fn stmt_rule<G: Algebra, C: Context<G>>(
             then_basic(alloc, algebra, values, Basic::Mover)
         }
         CoreStmt::SetField(receiver, field, _) => {
-            then_access(alloc, context, algebra, values, receiver, *field, true)
+            let write = FieldAccess {
+                receiver,
+                field: *field,
+                writes: true,
+            };
+            then_access(alloc, context, algebra, values, &write)
         }
         CoreStmt::Do(_, _) | CoreStmt::Return(_) => sequence(alloc, algebra, values),
         CoreStmt::If(_, _, _) => choice(alloc, algebra, values),

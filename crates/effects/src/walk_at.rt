@@ -99,8 +99,7 @@ pub fn stmt_effect<A: Assigned>(
             block_effect(alloc, program, sets, assigned, body.as_slice(), held)
         }
         CoreStmt::Local { value: e, .. } | CoreStmt::SetVar(_, e) => {
-            let value = expr_effect(alloc, program, sets, assigned, e, held)?;
-            Ok(value.seq(Basic::Mover))
+            Ok(expr_effect(alloc, program, sets, assigned, e, held)?.seq(Basic::Mover))
         }
         CoreStmt::SetField(a, field, b) => {
             let receiver = expr_effect(alloc, program, sets, assigned, a, held)?;
