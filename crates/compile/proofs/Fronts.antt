@@ -1,20 +1,9 @@
 -- Lines at the front stay there.
-use Rattle.std.proofs.Common.{◌≡◌, ℕ, zero, suc, ◌≤◌, List, [], ◌∷◌, ◌++◌, length, refl, ap, ◌∙◌, arith, append_assoc}
+use Rattle.std.proofs.Common.{◌≡◌, ℕ, zero, suc, ◌≤◌, List, [], ◌∷◌, ◌++◌, length, refl, ap, ◌∙◌, arith}
 use Rattle.std.proofs.Math.ListN.{set}
 use Rattle.std.proofs.lemmas.List.{length-append}
 use Rattle.compile.specs.declared.stack.Code.{Code}
 use Rattle.compile.specs.Emission.{KeepsCode}
-
--- some more lines
-pub keeps_more : (front old new more : List Code) → new ≡ old ++ more → KeepsCode front old → KeepsCode front new
-keeps_more front old new more is kept = record {
-  behind = kept.behind ++ more;
-  whole = is ∙ ap (λ xs. xs ++ more) kept.whole ∙ append_assoc front kept.behind more;
-}
-
--- no more lines
-pub keeps_same : (front old new : List Code) → new ≡ old → KeepsCode front old → KeepsCode front new
-keeps_same front old new is kept = record { behind = kept.behind; whole = is ∙ kept.whole }
 
 set_behind : (front behind : List Code) (at : ℕ) (line : Code) → length front ≤ at → (more : List Code) × (set (front ++ behind) at line ≡ front ++ more)
 set_behind [] behind at line far = (set behind at line, refl)

@@ -4,14 +4,14 @@ use Rattle.core_program.specs.Core.{Expr, Exprs, NotE, NegE, BinaryE, AndE, OrE,
 use Rattle.core_program.specs.Core.{Stmt, Stmts, BlockS, IfS, WhileS, SyncS, no_stmts, and_stmt}
 
 abbrev mutual
-  -- more than that of each part
+  -- more than that of each part, by two where an action on one operand is put down with it
   pub expr_measure : Expr → ℕ
-  expr_measure (NotE e) = 1 + expr_measure e
-  expr_measure (NegE e) = 1 + expr_measure e
+  expr_measure (NotE e) = 2 + expr_measure e
+  expr_measure (NegE e) = 2 + expr_measure e
   expr_measure (BinaryE op a b) = 1 + (expr_measure a + expr_measure b)
   expr_measure (AndE a b) = 1 + (expr_measure a + expr_measure b)
   expr_measure (OrE a b) = 1 + (expr_measure a + expr_measure b)
-  expr_measure (GetE e f) = 1 + expr_measure e
+  expr_measure (GetE e f) = 2 + expr_measure e
   expr_measure (CallE e m args) = 1 + (expr_measure e + exprs_measure args)
   expr_measure (NewE c args) = 1 + exprs_measure args
   expr_measure _ = 1

@@ -38,14 +38,8 @@ pub(crate) fn emit_expr(code: &mut Vec<Code>, e: &CoreExpr, next: u32) -> Result
         CoreExpr::Null => put(code, Instr::Push(Value::Null), next),
         CoreExpr::This => put(code, Instr::Load(0), next),
         CoreExpr::Var { slot, .. } => put(code, Instr::Load(*slot), next),
-        CoreExpr::Not(a) => {
-            let last = put(code, Instr::Unary(UnaryOp::Not), next)?;
-            emit_expr(code, a, last)
-        }
-        CoreExpr::Neg(a) => {
-            let last = put(code, Instr::Unary(UnaryOp::Neg), next)?;
-            emit_expr(code, a, last)
-        }
+        CoreExpr::Not(a) => emit_unary(code, Instr::Unary(UnaryOp::Not), a, next),
+        CoreExpr::Neg(a) => emit_unary(code, Instr::Unary(UnaryOp::Neg), a, next),
         CoreExpr::Binary(op, a, b) => {
             let last = put(code, Instr::Binary(*op), next)?;
             let right = emit_expr(code, b, last)?;
@@ -61,10 +55,7 @@ pub(crate) fn emit_expr(code: &mut Vec<Code>, e: &CoreExpr, next: u32) -> Result
             let test = put(code, Instr::OrElse(right), next)?;
             emit_expr(code, a, test)
         }
-        CoreExpr::Get(a, field) => {
-            let last = put(code, Instr::Get(*field), next)?;
-            emit_expr(code, a, last)
-        }
+        CoreExpr::Get(a, field) => emit_unary(code, Instr::Get(*field), a, next),
         CoreExpr::Call(a, method, args) => {
             let last = put(code, Instr::Call(*method), next)?;
             let arguments = emit_args(code, args.as_slice(), last)?;
@@ -75,6 +66,23 @@ pub(crate) fn emit_expr(code: &mut Vec<Code>, e: &CoreExpr, next: u32) -> Result
             emit_args(code, args.as_slice(), last)
         }
     }
+}
+
+/// Puts down an action on one operand, which goes on at `next`, and the operand; answers where the operand begins.
+#[cycle(exprs)]
+fn emit_unary(
+    code: &mut Vec<Code>,
+    instr: Instr,
+    operand: &CoreExpr,
+    next: u32,
+) -> Result<u32, NoMemory>
+    ensures code { IfOk result (λ at. code.new.items ≡ code.old.items ++ (code_line instr next ∷ emitted (expr_of operand.now) (vec_len code.old + 1) (vec_len code.old))) }
+    ensures len { IfOk result (λ at. vec_len code.new ≡ vec_len code.old + (1 + weight (expr_of operand.now))) }
+    ensures place { IfOk result (λ at. at ≡ expr_entry (expr_of operand.now) (vec_len code.old + 1) (vec_len code.old)) }
+    ensures kept { (front : List Code) → KeepsCode front code.old.items → KeepsCode front code.new.items }
+{
+    let last = put(code, instr, next)?;
+    emit_expr(code, operand, last)
 }
 
 /// Puts down arguments that go on at `next`; answers where they begin.
