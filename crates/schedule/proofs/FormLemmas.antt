@@ -1,71 +1,20 @@
 -- A fault of form, apart from the reader: what stands before its place begins a text of pieces, and with its byte nothing does.
-use Rattle.std.proofs.Common.{◌≡◌, ℕ, ◌+◌, ◌^◌, ◌<◌, ◌≤◌, ◌==◌, Bool, true, false, not, List, [], ◌∷◌, ◌++◌, length, take, drop, Option, Some, None, if◌then◌else◌, decimal, cond, suc, refl, sym, ◌∙◌, ap, subst, arith, append_assoc, ◌⊎◌, inl, inr}
+use Rattle.std.proofs.Common.{◌≡◌, ℕ, ◌+◌, ◌^◌, ◌<◌, ◌==◌, Bool, true, false, not, List, [], ◌∷◌, ◌++◌, length, take, drop, Option, Some, None, if◌then◌else◌, decimal, suc, refl, sym, ◌∙◌, ap, subst, arith, append_assoc, ◌⊎◌, inl, inr}
 use Rattle.std.proofs.lemmas.Fmt.{decimal_nonempty}
-use Rattle.std.proofs.lemmas.List.{append_cancel_left, take-append-drop, append-nil}
-use Rattle.std.proofs.lemmas.List.Sums.{take_while-cons}
-use Rattle.std.proofs.lemmas.Grind.{common_steps}
+use Rattle.std.proofs.lemmas.List.{append_cancel_left, append-nil}
 use Rattle.std.proofs.lemmas.Bool.Decides.{nat_tests}
 use Rattle.std.specs.Char.{is_ascii_digit}
 use Rattle.std.specs.Option.{option_map}
 use Rattle.std.specs.Str.{all_ascii_digits}
 use Rattle.std.specs.Str.Parse.{digits_value}
-use Rattle.std.proofs.lemmas.Bool.{eqb-true, false_from_ne_true}
+use Rattle.std.proofs.lemmas.Bool.{eqb-true}
 use Rattle.schedule.specs.Text.{Piece, blank, comment, single, group, spelled, is_schedule_blank, ends_entry, ends_comment, IsPiece, joined, ArePieces}
 use Rattle.schedule.specs.Faults.{writes_number, first_digits, after_digits, begins_count, count_fault, form_fault, HasFormFault}
 use Rattle.schedule.specs.Fronts.{IsFrontOfSchedule, ends_in_star, NoNumber}
-use Rattle.schedule.proofs.NumberLemmas.{digits_are, take-digits, number_is}
+use Rattle.schedule.proofs.NumberLemmas.{digits_are, number_is}
 use Rattle.schedule.proofs.FrontLemmas.{fault_cases}
-use Rattle.schedule.proofs.UniqueLemmas.{begins_with, first_of, digits_all, front_digit, drop-front, Reads, reads_of, same_piece}
-
--- lists
-take_front : (xs ys : List ℕ) → take (length xs) (xs ++ ys) ≡ xs
-take_front [] ys = refl
-take_front (x ∷ xs) ys = ap (λ t. x ∷ t) (take_front xs ys)
-
-take_next : (xs : List ℕ) (c : ℕ) (ys : List ℕ) → take (suc (length xs)) (xs ++ c ∷ ys) ≡ xs ++ c ∷ []
-take_next [] c ys = refl
-take_next (x ∷ xs) c ys = ap (λ t. x ∷ t) (take_next xs c ys)
-
-length_both : (xs ys : List ℕ) → length xs + length ys ≡ length (xs ++ ys)
-length_both xs ys = grind (arith, common_steps)
-
--- the digits and what stands behind them
-digits_split : (text : List ℕ) → text ≡ first_digits text ++ after_digits text
-digits_split text = sym (take-append-drop (length (first_digits text)) text) ∙ ap (λ t. t ++ after_digits text) (take-digits text (length (first_digits text)) refl)
-
-behind_step : (b : Bool) (byte : ℕ) (text : List ℕ) → is_ascii_digit byte ≡ b → begins_with is_ascii_digit (after_digits text) ≡ false →
-    begins_with is_ascii_digit (drop (length (cond b (byte ∷ first_digits text) [])) (byte ∷ text)) ≡ false
-behind_step true byte text e rest = rest
-behind_step false byte text e rest = e
-
-behind_digits : (text : List ℕ) → begins_with is_ascii_digit (after_digits text) ≡ false
-behind_digits [] = refl
-behind_digits (byte ∷ text) = rw (take_while-cons is_ascii_digit byte text) (behind_step (is_ascii_digit byte) byte text refl (behind_digits text))
-
--- digits before something that is no digit
-record Digits (ds more : List ℕ) : Type 0 where
-  first : first_digits (ds ++ more) ≡ ds
-  after : after_digits (ds ++ more) ≡ more
-
-digits_of : (ds more : List ℕ) → all_ascii_digits ds ≡ true → begins_with is_ascii_digit more ≡ false → Digits ds more
-digits_of ds more all stop =
-    let first = first_of is_ascii_digit ds more (digits_all ds all) stop in
-    record { first = first; after = ap (λ d. drop (length d) (ds ++ more)) first ∙ drop-front ds more }
-
-some_digits : (low end : ℕ) (ds : List ℕ) → end ≤ 2 ^ 64 → writes_number low end ds ≡ true → 0 < length ds
-some_digits low end ds small w =
-    let n = number_is low end ds w in
-    subst (λ d. 0 < length d) n.0 (decimal_nonempty (digits_value 10 ds) (omega (arith, n.2, small)))
-
-none_written : (low end : ℕ) → end ≤ 2 ^ 64 → writes_number low end [] ≡ false
-none_written low end small = false_from_ne_true (writes_number low end []) (λ w. let some = some_digits low end [] small w in omega (arith, some))
-
--- a byte that is no digit
-digits_none : (byte : ℕ) (more : List ℕ) → is_ascii_digit byte ≡ false → first_digits (byte ∷ more) ≡ []
-digits_none byte more e = take_while-cons is_ascii_digit byte more ∙ ap (λ b. cond b (byte ∷ first_digits more) []) e
-
-digits_some : (byte : ℕ) (more : List ℕ) → is_ascii_digit byte ≡ true → 0 < length (first_digits (byte ∷ more))
-digits_some byte more e = subst (λ ds. 0 < length ds) (sym (take_while-cons is_ascii_digit byte more ∙ ap (λ b. cond b (byte ∷ first_digits more) []) e)) (omega arith)
+use Rattle.schedule.proofs.UniqueLemmas.{begins_with, front_digit, drop-front, Reads, reads_of, same_piece}
+use Rattle.schedule.proofs.DigitLemmas.{take_front, take_next, length_both, digits_split, behind_digits, digits_of, some_digits, none_written, digits_none, digits_some}
 
 -- which test of the cascade tells the fault
 data Wrong (writes behind star count_writes count_behind : Bool) (size count_size offset : ℕ) : Type 0 where

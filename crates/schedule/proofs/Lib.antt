@@ -3,6 +3,7 @@ mod NumberLemmas
 mod FrontLemmas
 mod ReadLemmas
 pub mod UniqueLemmas
+mod DigitLemmas
 mod FormLemmas
 pub mod WrittenLemmas
 mod CommentLemmas
