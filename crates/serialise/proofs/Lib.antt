@@ -14,6 +14,7 @@ mod Moves
 mod Together
 mod Neighbours
 mod Gathered
+mod ToldUnits
 mod Spreads
 mod OpeningResults
 -- Lemmas on rewriting.
