@@ -267,8 +267,7 @@ fn expect_blamed(rt: &impl Abort, alloc: Global, source: &str) -> Result<(), Fai
         "verify-blame",
         source,
         certificate.as_slice(),
-        0,
-        b"refusal verified\n",
+        (0, b"refusal verified\n"),
     )
 }
 

@@ -1,7 +1,8 @@
 //! What the program answers to the rows on books.
 
+use crate::check_tests::{APPEND_LOCKED, EIGHT_LOCKS};
 use crate::schedule_tests::{answer_failing, expect, expect_inputs};
-use crate::tests::{APPEND_LOCKED, EIGHT_LOCKS, LOCKED, counter, expect_rows, written};
+use crate::tests::{LOCKED, counter, expect_rows, written};
 use std::alloc::Global;
 use std::process::Abort;
 use std::test::Fail;
@@ -174,8 +175,7 @@ fn texts_that_are_no_books_have_their_first_fault(rt: HostRuntime) -> Result<(),
             "verify",
             LOCKED,
             text.as_bytes(),
-            11,
-            line.as_bytes(),
+            (11, line.as_bytes()),
         )?;
     }
     Ok(())
@@ -234,8 +234,7 @@ fn verify_tells_what_is_wrong_first(rt: HostRuntime) -> Result<(), Fail> {
             "verify",
             LOCKED,
             given.as_bytes(),
-            *status,
-            text.as_bytes(),
+            (*status, text.as_bytes()),
         )?;
     }
     Ok(())
@@ -254,8 +253,7 @@ fn a_derivation_is_at_most_64_high(rt: HostRuntime) -> Result<(), Fail> {
         "verify",
         LOCKED,
         given.as_bytes(),
-        11,
-        line.as_bytes(),
+        (11, line.as_bytes()),
     )
 }
 
@@ -286,8 +284,7 @@ pub fn expect_derived(rt: &impl Abort, alloc: Global, source: &str) -> Result<()
         "verify",
         source,
         derived.as_slice(),
-        0,
-        b"verified\n",
+        (0, b"verified\n"),
     )
 }
 

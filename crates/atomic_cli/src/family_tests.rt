@@ -381,7 +381,9 @@ fn a_family_is_serialised(rt: HostRuntime) -> Result<(), Fail> {
         "serialise",
         STARTS,
         b"0*6 1*4",
-        0,
-        b"0*6 1*4\n# print 2\n# object 0:0 Main\n# object 0:1 C\n# thread 0 done\n# thread 1 done\n",
+        (
+            0,
+            b"0*6 1*4\n# print 2\n# object 0:0 Main\n# object 0:1 C\n# thread 0 done\n# thread 1 done\n",
+        ),
     )
 }

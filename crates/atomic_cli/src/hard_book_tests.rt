@@ -65,20 +65,21 @@ fn ten_nodes(alloc: Global, word: &str) -> Result<String, Fail> {
     Ok(text)
 }
 
-/// A book with the ten trees, whose method has this tree and whose derivation begins and ends so, with the ten nodes between.
-fn ten_trees(
-    alloc: Global,
-    own: &str,
-    before: &str,
-    word: &str,
-    behind: &str,
-) -> Result<String, Fail> {
+/// The derivation of a method with ten nodes in it: how it begins, the word of the ten nodes, and how it ends.
+struct TenNodes<'t> {
+    before: &'t str,
+    word: &'t str,
+    behind: &'t str,
+}
+
+/// A book with the ten trees, whose method has this tree and this derivation.
+fn ten_trees(alloc: Global, own: &str, derived: &TenNodes<'_>) -> Result<String, Fail> {
     let mut text = table(alloc, own)?;
-    let nodes = ten_nodes(alloc, word)?;
+    let nodes = ten_nodes(alloc, derived.word)?;
     text.push_str("method 0 0\n")?;
-    text.push_str(before)?;
+    text.push_str(derived.before)?;
     text.push_str(nodes.as_str())?;
-    text.push_str(behind)?;
+    text.push_str(derived.behind)?;
     text.push_str("\nend\n")?;
     Ok(text)
 }
@@ -88,30 +89,26 @@ fn expect_judged(
     rt: &impl Abort,
     alloc: Global,
     source: &str,
-    before: &str,
-    word: &str,
-    behind: &str,
+    derived: &TenNodes<'_>,
     line: &str,
 ) -> Result<(), Fail> {
-    let good = ten_trees(alloc, "cmpd", before, word, behind)?;
+    let good = ten_trees(alloc, "cmpd", derived)?;
     expect(
         rt,
         alloc,
         "verify",
         source,
         good.as_bytes(),
-        0,
-        b"verified\n",
+        (0, b"verified\n"),
     )?;
-    let wrong = ten_trees(alloc, "atomic", before, word, behind)?;
+    let wrong = ten_trees(alloc, "atomic", derived)?;
     expect(
         rt,
         alloc,
         "verify",
         source,
         wrong.as_bytes(),
-        11,
-        line.as_bytes(),
+        (11, line.as_bytes()),
     )
 }
 
@@ -121,9 +118,11 @@ fn arguments_with_many_paths_are_judged(rt: HostRuntime) -> Result<(), Fail> {
         &rt,
         rt.alloc(),
         MADE,
-        "(block 0 (do 0 (new 0",
-        "lit",
-        ")))",
+        &TenNodes {
+            before: "(block 0 (do 0 (new 0",
+            word: "lit",
+            behind: ")))",
+        },
         "book refused: method 0 node 2: step\n",
     )
 }
@@ -186,9 +185,11 @@ fn blocks_with_many_paths_are_judged(rt: HostRuntime) -> Result<(), Fail> {
         &rt,
         rt.alloc(),
         LOCAL,
-        "(block 0 (local 0 (lit 1))",
-        "skip",
-        ")",
+        &TenNodes {
+            before: "(block 0 (local 0 (lit 1))",
+            word: "skip",
+            behind: ")",
+        },
         "book refused: method 0 node 0: step\n",
     )
 }
@@ -238,8 +239,7 @@ fn loops_with_many_paths_are_judged(rt: HostRuntime) -> Result<(), Fail> {
         "verify",
         LOOP,
         good.as_bytes(),
-        0,
-        b"verified\n",
+        (0, b"verified\n"),
     )?;
     let wrong = turns(rt.alloc(), "atomic")?;
     expect(
@@ -248,8 +248,7 @@ fn loops_with_many_paths_are_judged(rt: HostRuntime) -> Result<(), Fail> {
         "verify",
         LOOP,
         wrong.as_bytes(),
-        11,
-        b"book refused: method 0 node 1: step\n",
+        (11, b"book refused: method 0 node 1: step\n"),
     )
 }
 
@@ -270,8 +269,7 @@ fn a_large_tree_over_paths_of_others_is_refused(rt: HostRuntime) -> Result<(), F
         "verify",
         NOTHING,
         book.as_bytes(),
-        11,
-        b"book refused: method 0: table\n",
+        (11, b"book refused: method 0: table\n"),
     )
 }
 
@@ -292,7 +290,7 @@ fn beyond(alloc: Global) -> Result<String, Fail> {
 #[test]
 fn the_bound_of_work_is_met(rt: HostRuntime) -> Result<(), Fail> {
     let book = beyond(rt.alloc())?;
-    expect(&rt, rt.alloc(), "verify", LOCAL, book.as_bytes(), 8, b"")
+    expect(&rt, rt.alloc(), "verify", LOCAL, book.as_bytes(), (8, b""))
 }
 
 #[test]

@@ -78,8 +78,7 @@ fn long_books_are_judged_in_place(rt: HostRuntime) -> Result<(), Fail> {
             "verify",
             LOCKED,
             given.as_bytes(),
-            *status,
-            text.as_bytes(),
+            (*status, text.as_bytes()),
         )?;
     }
     Ok(())

@@ -91,8 +91,7 @@ fn texts_that_give_no_levels_have_their_first_fault(rt: HostRuntime) -> Result<(
             "levels",
             TWO_LOCKS,
             text.as_bytes(),
-            14,
-            line.as_bytes(),
+            (14, line.as_bytes()),
         )?;
     }
     Ok(())
@@ -106,86 +105,8 @@ fn levels_are_bytes_and_no_text(rt: HostRuntime) -> Result<(), Fail> {
         "levels",
         TWO_LOCKS,
         b"A 1\nB\xff 2\n",
-        14,
-        b"levels refused at byte 5: form\n",
+        (14, b"levels refused at byte 5: form\n"),
     )
-}
-
-/// Classes that extend each other, the one above all of them last.
-const LINE: &str =
-    "class C extends B { } class B extends A { } class A { } class Main { void main() { } }";
-
-/// Texts of levels for `LINE`, each with the status and the text. A class has the level of the class that it extends; a text with
-/// another fault is refused for that one.
-static LEVELS_OF_A_LINE: [(&str, u8, &str); 9] = [
-    ("A 7\nB 7\nC 7\nMain 1\n", 0, "ordered\n"),
-    ("A 1\nB 2\nC 2\nMain 1\n", 14, "levels refused: B differs\n"),
-    ("A 1\nB 1\nC 2\nMain 1\n", 14, "levels refused: C differs\n"),
-    // The first in the source, whatever the order of the lines.
-    ("A 1\nB 2\nC 3\nMain 1\n", 14, "levels refused: C differs\n"),
-    // That of the class above, not of the one above that.
-    ("A 2\nB 1\nC 2\nMain 1\n", 14, "levels refused: C differs\n"),
-    ("A 1\nB 2\nC 3\n", 14, "levels refused: Main has none\n"),
-    (
-        "A 1\nB 2\nC 3\nMain 1",
-        14,
-        "levels refused at byte 18: form\n",
-    ),
-    (
-        "A 1\nB 2\nC 3\nMain 1\nX 1\n",
-        14,
-        "levels refused at byte 19: unknown\n",
-    ),
-    (
-        "A 1\nB 2\nC 3\nMain 1\nA 1\n",
-        14,
-        "levels refused at byte 19: twice\n",
-    ),
-];
-
-#[test]
-fn a_class_has_the_level_of_the_class_that_it_extends(rt: HostRuntime) -> Result<(), Fail> {
-    expect_inputs(&rt, rt.alloc(), "levels", LINE, &LEVELS_OF_A_LINE)
-}
-
-/// A call under a lock, which may run a method that takes another one.
-const MAY_RUN: &str =
-    "class L { } class A { void f() { } } class B extends A { void f() { synchronized (this) { } } } \
-    class Main { void main() { final A a = new A(); final L l = new L(); synchronized (l) { a.f(); } } }";
-
-/// A call under the lock that the method which runs takes too.
-const RUNS_HELD: &str =
-    "class A { void f() { } } class B extends A { void f() { synchronized (this) { } } } \
-    class Main { void main() { final A a = new B(); synchronized (a) { a.f(); } } }";
-
-/// A class that counts as Runnable because of the class above, with a `run` of its own.
-const RUNS_BELOW: &str =
-    "class A { } class B { } class W implements Runnable { final A a; final B b; W(A a, B b) { this.a = a; this.b = b; } \
-    public void run() { } } class V extends W { V(A a, B b) { this.a = a; this.b = b; } \
-    public void run() { synchronized (this.b) { synchronized (this.a) { } } } } class Main { void main() { } }";
-
-/// Sources whose classes extend each other, with levels, the status and the text.
-static FAMILIES: [(&str, &str, u8, &str); 5] = [
-    (MAY_RUN, "L 1\nA 2\nB 2\nMain 1\n", 0, "ordered\n"),
-    (
-        MAY_RUN,
-        "L 3\nA 3\nB 3\nMain 1\n",
-        14,
-        "B.f: takes B under level 3\n",
-    ),
-    (RUNS_HELD, "A 1\nB 1\nMain 1\n", 0, "ordered\n"),
-    (RUNS_BELOW, "A 2\nB 1\nW 1\nV 1\nMain 1\n", 0, "ordered\n"),
-    (
-        RUNS_BELOW,
-        "A 1\nB 2\nW 1\nV 1\nMain 1\n",
-        14,
-        "V.run: takes A under level 2\n",
-    ),
-];
-
-#[test]
-fn levels_judge_methods_that_may_run(rt: HostRuntime) -> Result<(), Fail> {
-    expect_sources(&rt, rt.alloc(), &FAMILIES)
 }
 
 /// A buffer is filled from another, which may be the same one.
@@ -338,7 +259,7 @@ static SOURCES: [(&str, &str, u8, &str); 22] = [
 ];
 
 /// Each source with its levels has this status and this text.
-fn expect_sources(
+pub fn expect_sources(
     rt: &impl Abort,
     alloc: Global,
     rows: &[(&str, &str, u8, &str)],
@@ -350,8 +271,7 @@ fn expect_sources(
             "levels",
             source,
             levels.as_bytes(),
-            *status,
-            text.as_bytes(),
+            (*status, text.as_bytes()),
         )?;
     }
     Ok(())
@@ -370,7 +290,7 @@ fn levels_order_the_counter_program(rt: HostRuntime) -> Result<(), Fail> {
         class Main { void main() { final Cell c = new Cell(); new Thread(new W(c)).start(); new Thread(new W(c)).start(); } }";
     let alloc = rt.alloc();
     let levels = b"Cell 1\nW 1\nMain 1\n";
-    expect(&rt, alloc, "levels", source, levels, 0, b"ordered\n")?;
+    expect(&rt, alloc, "levels", source, levels, (0, b"ordered\n"))?;
     let source = counter(alloc, "", "", "")?;
     expect(
         &rt,
@@ -378,8 +298,7 @@ fn levels_order_the_counter_program(rt: HostRuntime) -> Result<(), Fail> {
         "levels",
         source.as_str(),
         levels,
-        0,
-        b"ordered\n",
+        (0, b"ordered\n"),
     )
 }
 
@@ -392,106 +311,10 @@ fn a_lock_is_taken_again_under_a_second_name(rt: HostRuntime) -> Result<(), Fail
         "run",
         SECOND_NAME,
         b"0*9",
-        0,
-        b"object 0:0 Main\nobject 0:1 C\nlock 0:1 thread 0 count 2\nthread 0 running Main.main 1\n",
-    )
-}
-
-/// Two philosophers: each takes the fork at the left, and then the one at the right.
-const PHILOSOPHERS: &str =
-    "class Fork { } class Phil implements Runnable { final Fork left; final Fork right; \
-    Phil(Fork left, Fork right) { this.left = left; this.right = right; } \
-    public void run() { synchronized (this.left) { synchronized (this.right) { } } } } \
-    class Main { void main() { final Fork a = new Fork(); final Fork b = new Fork(); \
-    new Thread(new Phil(a, b)).start(); new Thread(new Phil(b, a)).start(); } }";
-
-/// Schedules with which each philosopher holds a fork, with the status and the text: both wait for the other.
-static CIRCLE: [(&str, u8, &str); 3] = [
-    (
-        "0*14 1*4 2*4 1*2 2*2",
-        0,
-        "object 0:0 Main\nobject 0:1 Fork\nobject 0:2 Fork\nobject 0:3 Phil left=0:1 right=0:2\nobject 0:4 Phil left=0:2 right=0:1\n\
-        lock 0:1 thread 1 count 1\nlock 0:2 thread 2 count 1\nthread 0 done\nthread 1 running Phil.run 1\nthread 2 running Phil.run 1\n",
-    ),
-    (
-        "0*14 1*4 2*4 1*2 2*2 1",
-        4,
-        "entry 27: thread 1 waits for 0:2 held by 2\n",
-    ),
-    (
-        "0*14 1*4 2*4 1*2 2*2 2",
-        4,
-        "entry 27: thread 2 waits for 0:1 held by 1\n",
-    ),
-];
-
-#[test]
-fn two_philosophers_wait_for_each_other(rt: HostRuntime) -> Result<(), Fail> {
-    expect_inputs(&rt, rt.alloc(), "run", PHILOSOPHERS, &CIRCLE)
-}
-
-/// The philosophers are accepted, and no levels order them.
-#[test]
-fn accepted_philosophers_are_not_ordered(rt: HostRuntime) -> Result<(), Fail> {
-    let alloc = rt.alloc();
-    expect_rows(
-        &rt,
-        alloc,
-        "check",
-        &[(
-            PHILOSOPHERS,
+        (
             0,
-            "Phil.run this.left ? (this.right ? const : atomic) : atomic\nMain.main cmpd\n",
-        )],
-    )?;
-    expect(
-        &rt,
-        alloc,
-        "levels",
-        PHILOSOPHERS,
-        b"Fork 1\nPhil 2\nMain 3\n",
-        14,
-        b"Phil.run: takes Fork under level 1\n",
-    )
-}
-
-/// Forks of two ranks, and each philosopher takes the lower one first.
-const RANKED: &str =
-    "class Low { } class High { } class Phil implements Runnable { final Low low; final High high; \
-    Phil(Low low, High high) { this.low = low; this.high = high; } \
-    public void run() { synchronized (this.low) { synchronized (this.high) { } } } } \
-    class Main { void main() { final Low a = new Low(); final High b = new High(); \
-    new Thread(new Phil(a, b)).start(); new Thread(new Phil(a, b)).start(); } }";
-
-/// One lock of the table stands for both forks.
-const ONE_TABLE: &str =
-    "class Table { } class Phil implements Runnable { final Table table; Phil(Table table) { this.table = table; } \
-    public void run() { synchronized (this.table) { } } } \
-    class Main { void main() { final Table t = new Table(); new Thread(new Phil(t)).start(); new Thread(new Phil(t)).start(); } }";
-
-#[test]
-fn repaired_philosophers_are_ordered(rt: HostRuntime) -> Result<(), Fail> {
-    let alloc = rt.alloc();
-    expect_inputs(
-        &rt,
-        alloc,
-        "levels",
-        RANKED,
-        &[
-            ("Low 1\nHigh 2\nPhil 1\nMain 1\n", 0, "ordered\n"),
-            (
-                "Low 2\nHigh 1\nPhil 1\nMain 1\n",
-                14,
-                "Phil.run: takes High under level 2\n",
-            ),
-        ],
-    )?;
-    expect_inputs(
-        &rt,
-        alloc,
-        "levels",
-        ONE_TABLE,
-        &[("Table 1\nPhil 1\nMain 1\n", 0, "ordered\n")],
+            b"object 0:0 Main\nobject 0:1 C\nlock 0:1 thread 0 count 2\nthread 0 running Main.main 1\n",
+        ),
     )
 }
 

@@ -218,8 +218,7 @@ fn brackets_and_tests_of_a_book_are_at_most_64(rt: HostRuntime) -> Result<(), Fa
             "verify",
             LOCKED,
             given.as_bytes(),
-            11,
-            text.as_bytes(),
+            (11, text.as_bytes()),
         )?;
     }
     Ok(())
@@ -264,8 +263,7 @@ fn a_second_file_has_at_most_16777216_bytes(rt: HostRuntime) -> Result<(), Fail>
             command,
             source,
             full.as_slice(),
-            *status,
-            text,
+            (*status, text),
         )?;
         let over = filled(rt.alloc(), front, 16777217)?;
         let refused = b"b is too large\n";
@@ -275,8 +273,7 @@ fn a_second_file_has_at_most_16777216_bytes(rt: HostRuntime) -> Result<(), Fail>
             command,
             source,
             over.as_slice(),
-            10,
-            refused,
+            (10, refused),
         )?;
     }
     Ok(())

@@ -22,6 +22,8 @@ mod blame_tests;
 #[cfg(test)]
 mod book_tests;
 #[cfg(test)]
+mod check_tests;
+#[cfg(test)]
 mod edge_tests;
 #[cfg(test)]
 mod examples;
@@ -30,11 +32,15 @@ mod failing_tests;
 #[cfg(test)]
 mod family_tests;
 #[cfg(test)]
+mod fault_tests;
+#[cfg(test)]
 mod generate_tests;
 #[cfg(test)]
 mod hard_book_tests;
 #[cfg(test)]
 mod large_tests;
+#[cfg(test)]
+mod level_family_tests;
 #[cfg(test)]
 mod level_tests;
 #[cfg(test)]
@@ -49,6 +55,8 @@ mod nodes_tests;
 mod open_tests;
 #[cfg(test)]
 mod part_tests;
+#[cfg(test)]
+mod philosopher_tests;
 #[cfg(test)]
 mod replay_tests;
 #[cfg(test)]

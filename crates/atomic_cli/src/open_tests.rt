@@ -128,8 +128,7 @@ fn expect_same(rt: &impl Abort, alloc: Global, source: &str, schedule: &str) -> 
         "serialise-open",
         source,
         input,
-        0,
-        given.1.as_slice(),
+        (0, given.1.as_slice()),
     )
 }
 
@@ -159,8 +158,7 @@ fn a_source_that_is_not_accepted_is_refused(rt: HostRuntime) -> Result<(), Fail>
             "serialise-open",
             source,
             &[],
-            *status,
-            text.as_bytes(),
+            (*status, text.as_bytes()),
         )?;
     }
     Ok(())

@@ -135,8 +135,7 @@ fn replay_tells_what_calls_give(rt: HostRuntime) -> Result<(), Fail> {
             "replay",
             source,
             schedule.as_bytes(),
-            *status,
-            text.as_bytes(),
+            (*status, text.as_bytes()),
         )?;
     }
     Ok(())
@@ -161,8 +160,7 @@ fn only_an_accepted_source_is_replayed(rt: HostRuntime) -> Result<(), Fail> {
             "replay",
             source,
             &[],
-            *status,
-            text.as_bytes(),
+            (*status, text.as_bytes()),
         )?;
     }
     Ok(())

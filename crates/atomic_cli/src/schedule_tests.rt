@@ -43,9 +43,9 @@ pub fn expect(
     command: &str,
     source: &str,
     input: &[u8],
-    status: u8,
-    text: &[u8],
+    said: (u8, &[u8]),
 ) -> Result<(), Fail> {
+    let (status, text) = said;
     let given = answer_failing(alloc, command, source, input, Vec::new(alloc))?;
     assert_eq!(rt; given.0, status);
     assert_eq!(rt; given.1.as_slice(), text);
@@ -67,8 +67,7 @@ pub fn expect_inputs(
             command,
             source,
             input.as_bytes(),
-            *status,
-            text.as_bytes(),
+            (*status, text.as_bytes()),
         )?;
     }
     Ok(())
@@ -88,8 +87,7 @@ fn expect_rows(
             command,
             source,
             input.as_bytes(),
-            *status,
-            text.as_bytes(),
+            (*status, text.as_bytes()),
         )?;
     }
     Ok(())
@@ -105,7 +103,7 @@ pub fn expect_read_again(
     let first = answer_failing(alloc, "serialise", source, schedule, Vec::new(alloc))?;
     assert_eq!(rt; first.0, 0);
     let written = first.1.as_slice();
-    expect(rt, alloc, "serialise", source, written, 0, written)
+    expect(rt, alloc, "serialise", source, written, (0, written))
 }
 
 /// Schedules of the counter program, each with the status and the text of `serialise`.
