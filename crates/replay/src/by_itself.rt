@@ -35,8 +35,8 @@ pub fn evaluate(
     turns: u32,
 ) -> Result<(Plain, Option<Value>), EvalEnd>
     ensures { MatchResult result
-        (λ r. evaluate (program_of program.now) state call_method.now.thread call_method.now.on call_method.now.method call_method.now.args.now turns ≡ Gives r.1 r.0)
-        (λ x. IsEvaluationEnd x (evaluate (program_of program.now) state call_method.now.thread call_method.now.on call_method.now.method call_method.now.args.now turns)) }
+        (λ r. evaluate (program_of program.now) state call.now.thread call.now.on call.now.method call.now.args.now turns ≡ Gives r.1 r.0)
+        (λ x. IsEvaluationEnd x (evaluate (program_of program.now) state call.now.thread call.now.on call.now.method call.now.args.now turns)) }
 {
     let mut state = state;
     let method = call.method;
