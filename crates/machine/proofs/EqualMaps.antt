@@ -1,5 +1,5 @@
 -- Lists and maps with equal elements at each place.
-use Rattle.std.proofs.Common.{◌≡◌, ℕ, zero, suc, ◌+◌, ◌<◌, ◌==◌, Bool, true, false, List, [], ◌∷◌, length, ℤ, refl, sym, ap, subst, ◌∙◌, arith}
+use Rattle.std.proofs.Common.{◌≡◌, ℕ, suc, ◌<◌, List, [], ◌∷◌, length, ℤ, refl, sym, subst, ◌∙◌, arith}
 use Rattle.std.specs.Prelude.{slice_get}
 use Rattle.core_program.specs.Core.{Program}
 use Rattle.state.specs.Memory.{Heap, Locks}
@@ -10,19 +10,10 @@ use Rattle.machine.specs.Reaching.{IsKept}
 use Rattle.machine.specs.Counts.{IsCounted}
 use Rattle.std.specs.declared.cmp.Ordering.{Ordering}
 use Rattle.std.specs.FinMap.{FinMap, entries, len, len-entries, same_entries_map}
-use Rattle.std.proofs.lemmas.Bool.{eqb-true}
-use Rattle.std.proofs.lemmas.Bool.Decides.{nat_tests}
 
 -- the elements before this place are equal
 abbrev pub SameBelow : {A : Type 0} → List A → List A → ℕ → Type 0
 SameBelow xs ys n = (k : ℕ) → k < n → slice_get xs k ≡ slice_get ys k
-
-pub same_next : {A : Type 0} (xs ys : List A) (n : ℕ) → SameBelow xs ys n → slice_get xs n ≡ slice_get ys n → SameBelow xs ys (n + 1)
-same_next xs ys n so_far here k less = by_test (k == n) refl
-  where
-    by_test : (b : Bool) → (k == n) ≡ b → slice_get xs k ≡ slice_get ys k
-    by_test true is = let e = eqb-true k n is in ap (slice_get xs) e ∙ here ∙ ap (slice_get ys) (sym e)
-    by_test false is = so_far k (grind (arith, nat_tests, is, less))
 
 pub all_same : {A : Type 0} (xs ys : List A) → length xs ≡ length ys → SameBelow xs ys (length xs) → xs ≡ ys
 all_same [] [] e h = refl

@@ -1,19 +1,21 @@
 //! What a thread does next, decided before anything is changed.
-ghost use Rattle.std.specs.Prelude.{◌≡◌, reverse, nat_lt, Some, slice_get};
+ghost use Rattle.std.specs.Prelude.{◌≡◌, reverse, Some, slice_get};
 ghost use Rattle.std.specs.Option.{option_map};
 ghost use Rattle.core_program.specs.Views.{program_of};
 ghost use Rattle.state.specs.Memory.{lists, field_value};
-ghost use Rattle.semantics.specs.Step.{value_at, unless_final, index_of, run_of_class, run_of, target_at, object_class, most_frames};
-ghost use Rattle.machine.specs.CodeMachine.{pushes, stores, combines, branches_and, branches_or, branches, reads, writes, makes, enters, enters_some, dispatches, calls_on, call_deed, acquires, releases, returns, starts_thread, deed_of};
+ghost use Rattle.semantics.specs.Step.{value_at, unless_final, index_of};
+ghost use Rattle.machine.specs.declared.deed.Deed.TheVariants as deed;
+ghost use Rattle.machine.specs.CodeMachine.{pushes, stores, combines, branches_and, branches_or, branches, reads, writes, makes, acquires, releases, returns, deed_of};
 ghost use Rattle.machine.specs.Seen.{program_in, code_lines_in, entry_in, room_in, shared_in};
 ghost use Rattle.machine.specs.Turns.{cell_deed, line_deed};
 
+use crate::calling::{calls, starts};
 use crate::deed::Deed;
 use crate::operators::{address_of, as_int, as_truth, binary_value, operand, unary_value};
 use crate::seen::{Seen, TopFrame};
 use compile::{Code, Instr};
 use core_program::CoreProgram;
-use paths::{ClassId, FieldId, MethodId};
+use paths::{ClassId, FieldId};
 use state::{Address, Fault, ThreadCell, Value};
 
 /// One operand more.
@@ -27,6 +29,17 @@ fn pushes(next: u32, found: Option<Value>) -> Deed
             place: next,
         },
         None => Deed::Fails(Fault::Null),
+    }
+}
+
+/// One operand less, or another one in its place.
+fn replaces(next: u32, gives: Option<Value>) -> Deed
+    ensures { result ≡ deed.Goes 1 gives next }
+{
+    Deed::Goes {
+        drops: 1,
+        gives,
+        place: next,
     }
 }
 
@@ -219,134 +232,6 @@ fn makes(program: &CoreProgram, next: u32, class: ClassId) -> Deed
     }
 }
 
-/// The most frames that a thread has.
-const MOST_FRAMES: usize = 1000;
-
-/// Whether a thread with this many frames may have one more.
-fn may_deepen(depth: usize) -> bool
-    ensures { result ≡ nat_lt depth most_frames }
-{
-    depth < MOST_FRAMES
-}
-
-/// Enters a method with this many arguments on the object at an address, where one more frame may stand.
-fn enters(
-    seen: &Seen<'_>,
-    arguments: usize,
-    next: u32,
-    method: MethodId,
-    address: Address,
-    may: bool,
-) -> Deed
-    ensures { result ≡ enters (entry_in seen.now) (room_in seen.now) arguments next method address may }
-{
-    if !may {
-        return Deed::Fails(Fault::Depth);
-    }
-    let Some(entry) = seen.code.entry.get(method.0 as usize) else {
-        return Deed::Fails(Fault::Null);
-    };
-    match seen.code.room.get(method.0 as usize) {
-        Some(room) => Deed::Enters {
-            method,
-            arguments,
-            address,
-            place: next,
-            entry: *entry,
-            room: *room,
-        },
-        None => Deed::Fails(Fault::Null),
-    }
-}
-
-/// Enters a method, where it is there.
-fn enters_some(
-    seen: &Seen<'_>,
-    depth: usize,
-    arguments: usize,
-    next: u32,
-    method: MethodId,
-    address: Address,
-) -> Deed
-    ensures { result ≡ enters_some (entry_in seen.now) (room_in seen.now) depth arguments next method (slice_get (program_in seen.now).methods method) address }
-{
-    match seen.program.methods.get(method.0 as usize) {
-        Some(_) => enters(seen, arguments, next, method, address, may_deepen(depth)),
-        None => Deed::Fails(Fault::Null),
-    }
-}
-
-/// Enters the method that runs, where there is one.
-fn dispatches(
-    seen: &Seen<'_>,
-    depth: usize,
-    arguments: usize,
-    next: u32,
-    target: Option<MethodId>,
-    address: Address,
-) -> Deed
-    ensures { result ≡ dispatches (program_in seen.now) (entry_in seen.now) (room_in seen.now) depth arguments next target address }
-{
-    match target {
-        Some(method) => enters_some(seen, depth, arguments, next, method, address),
-        None => Deed::Fails(Fault::Null),
-    }
-}
-
-/// Calls a method with this many parameters on what the receiver refers to: the object's class chooses the one that runs.
-fn calls_on(
-    seen: &Seen<'_>,
-    depth: usize,
-    arguments: usize,
-    next: u32,
-    method: MethodId,
-    receiver: Option<Address>,
-) -> Deed
-    ensures { result ≡ calls_on (program_in seen.now) (shared_in seen.now) (entry_in seen.now) (room_in seen.now) depth arguments next method receiver }
-{
-    match receiver {
-        Some(address) => {
-            let target = target_at(seen, method, class_at(seen, address));
-            dispatches(seen, depth, arguments, next, target, address)
-        }
-        None => Deed::Fails(Fault::Null),
-    }
-}
-
-/// The class of the object at an address, where it is there.
-fn class_at(seen: &Seen<'_>, address: Address) -> Option<ClassId>
-    ensures { result ≡ object_class ((shared_in seen.now).object_at address) }
-{
-    match seen.heap.find(address) {
-        Some((class, _)) => Some(class),
-        None => None,
-    }
-}
-
-/// The method that runs for a method and an object's class, where both are there.
-fn target_at(seen: &Seen<'_>, method: MethodId, class: Option<ClassId>) -> Option<MethodId>
-    ensures { result ≡ target_at (program_in seen.now) method class }
-{
-    match class {
-        Some(class) => seen.program.target(class, method),
-        None => None,
-    }
-}
-
-/// Calls a method.
-fn calls(seen: &Seen<'_>, depth: usize, next: u32, operands: &[Value], method: MethodId) -> Deed
-    ensures { result ≡ call_deed (program_in seen.now) (shared_in seen.now) (entry_in seen.now) (room_in seen.now) depth next (reverse operands.now) method (slice_get (program_in seen.now).methods method) }
-{
-    match seen.program.methods.get(method.0 as usize) {
-        Some(found) => {
-            let arguments = found.params.len();
-            let receiver = address_of(operand(operands, arguments));
-            calls_on(seen, depth, arguments, next, method, receiver)
-        }
-        None => Deed::Fails(Fault::Null),
-    }
-}
-
 /// Takes the lock of what an operand refers to.
 fn acquires(seen: &Seen<'_>, next: u32, operand: Option<Address>) -> Deed
     ensures { result ≡ acquires (shared_in seen.now) seen.now.thread next operand }
@@ -406,43 +291,6 @@ fn returns(value: Value, with: bool) -> Deed
     }
 }
 
-/// The method that runs for `run` and an object's class, where both are there.
-fn run_of(seen: &Seen<'_>, class: Option<ClassId>) -> Option<MethodId>
-    ensures { result ≡ run_of (program_in seen.now) class }
-{
-    match class {
-        Some(class) => run_of_class(seen.program, class),
-        None => None,
-    }
-}
-
-/// The method `run` of a class.
-pub fn run_of_class(program: &CoreProgram, class: ClassId) -> Option<MethodId>
-    ensures { result ≡ run_of_class (slice_get (program_of program.now).classes class) }
-{
-    match program.classes.get(class.0 as usize) {
-        Some(found) => found.run,
-        None => None,
-    }
-}
-
-/// Starts a thread on what an operand refers to.
-fn starts(seen: &Seen<'_>, next: u32, operand: Option<Address>) -> Deed
-    ensures { result ≡ starts_thread (program_in seen.now) (shared_in seen.now) next operand }
-{
-    let Some(address) = operand else {
-        return Deed::Fails(Fault::Null);
-    };
-    match run_of(seen, class_at(seen, address)) {
-        Some(method) => Deed::Starts {
-            address,
-            method,
-            place: next,
-        },
-        None => Deed::Fails(Fault::Null),
-    }
-}
-
 /// The value of a slot, where it is there.
 fn slot_value(slots: &[Value], slot: u16) -> Option<Value>
     ensures { result ≡ slice_get slots.now slot }
@@ -461,16 +309,8 @@ pub(crate) fn deed_of(seen: &Seen<'_>, top: &TopFrame<'_>, next: u32, instr: Ins
         Instr::Push(value) => pushes(next, Some(value)),
         Instr::Load(slot) => pushes(next, slot_value(slots, slot)),
         Instr::Store(slot) => stores(next, operand(operands, 0), slot, slot_value(slots, slot)),
-        Instr::Drop => Deed::Goes {
-            drops: 1,
-            gives: None,
-            place: next,
-        },
-        Instr::Unary(op) => Deed::Goes {
-            drops: 1,
-            gives: Some(unary_value(op, operand(operands, 0))),
-            place: next,
-        },
+        Instr::Drop => replaces(next, None),
+        Instr::Unary(op) => replaces(next, Some(unary_value(op, operand(operands, 0)))),
         Instr::Binary(op) => combines(
             next,
             binary_value(op, operand(operands, 1), operand(operands, 0)),

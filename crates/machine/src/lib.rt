@@ -4,6 +4,7 @@
 #![tactic(auto)]
 
 mod act;
+mod calling;
 mod decide;
 mod deed;
 mod equal;
@@ -20,7 +21,8 @@ mod shared;
 mod turn;
 
 pub use act::object_values;
-pub use decide::{listed_value, next_deed, run_of_class};
+pub use calling::run_of_class;
+pub use decide::{listed_value, next_deed};
 pub use deed::{Deed, StepEnd, Turn};
 pub use equal::same_heap;
 pub use inside::is_annotated;

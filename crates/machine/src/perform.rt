@@ -16,33 +16,39 @@ use core_program::{CoreMethod, CoreProgram};
 use state::{Address, Entered, Fault, ThreadCell, Value};
 use std::alloc::{AllocError as NoMemory, Global};
 
+/// A method that is entered on an object with this many arguments, and where the caller goes on.
+#[derive(Clone, Copy)]
+struct Entering {
+    entered: Entered,
+    arguments: usize,
+    address: Address,
+    place: u32,
+}
+
 /// A method that is there is entered on an object.
 fn enters_found(
     alloc: Global,
     found: &CoreMethod,
     cell: &mut ThreadCell,
-    entered: Entered,
-    arguments: usize,
-    address: Address,
-    place: u32,
+    at: Entering,
 ) -> Result<(), NoMemory>
     requires { is_running cell.old ≡ true }
-    ensures ok { OnOk result (code_thread cell.new ≡ called_thread entered.method (Some (method_of found.now)) (value.Ref address) arguments place entered.entry (code_thread cell.old)) }
+    ensures ok { OnOk result (code_thread cell.new ≡ called_thread at.entered.method (Some (method_of found.now)) (value.Ref at.address) at.arguments at.place at.entered.entry (code_thread cell.old)) }
     ensures err { OnErr result (cell.new ≡ cell.old) }
-    ensures roomy { (rooms : List ℕ) → slice_get rooms entered.method ≡ Some entered.room → StaysRoomy rooms cell.old cell.new }
+    ensures roomy { (rooms : List ℕ) → slice_get rooms at.entered.method ≡ Some at.entered.room → StaysRoomy rooms cell.old cell.new }
 {
     // No list of parameters is so long.
-    if arguments == usize::MAX {
+    if at.arguments == usize::MAX {
         return Err(NoMemory);
     }
     let slots = slots_of(
         alloc,
         found.slots,
-        Value::Ref(address),
+        Value::Ref(at.address),
         cell.operands(),
-        arguments,
+        at.arguments,
     )?;
-    cell.call(alloc, arguments + 1, place, entered, slots)
+    cell.call(alloc, at.arguments + 1, at.place, at.entered, slots)
 }
 
 /// A method is entered on an object, where the method is there.
@@ -50,19 +56,16 @@ fn enters(
     alloc: Global,
     program: &CoreProgram,
     cell: &mut ThreadCell,
-    entered: Entered,
-    arguments: usize,
-    address: Address,
-    place: u32,
+    at: Entering,
 ) -> Result<(), NoMemory>
     requires { is_running cell.old ≡ true }
-    ensures ok { OnOk result (code_thread cell.new ≡ called_thread entered.method (slice_get (program_of program.now).methods entered.method) (value.Ref address) arguments place entered.entry (code_thread cell.old)) }
+    ensures ok { OnOk result (code_thread cell.new ≡ called_thread at.entered.method (slice_get (program_of program.now).methods at.entered.method) (value.Ref at.address) at.arguments at.place at.entered.entry (code_thread cell.old)) }
     ensures err { OnErr result (cell.new ≡ cell.old) }
-    ensures roomy { (rooms : List ℕ) → slice_get rooms entered.method ≡ Some entered.room → StaysRoomy rooms cell.old cell.new }
+    ensures roomy { (rooms : List ℕ) → slice_get rooms at.entered.method ≡ Some at.entered.room → StaysRoomy rooms cell.old cell.new }
 {
-    let method = entered.method;
+    let method = at.entered.method;
     match program.methods.get(method.0 as usize) {
-        Some(found) => enters_found(alloc, found, cell, entered, arguments, address, place),
+        Some(found) => enters_found(alloc, found, cell, at),
         None => Ok(()),
     }
 }
@@ -161,7 +164,13 @@ pub(crate) fn perform(
                 entry,
                 room,
             };
-            enters(alloc, program, cell, entered, arguments, address, place)
+            let at = Entering {
+                entered,
+                arguments,
+                address,
+                place,
+            };
+            enters(alloc, program, cell, at)
         }
         Deed::Takes { address, place, .. } => {
             takes(alloc, &mut shared.locks, cell, thread, address, place)

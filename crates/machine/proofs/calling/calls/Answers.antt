@@ -6,7 +6,7 @@ use Rattle.core_program.specs.Views.{method_of}
 use Rattle.state.specs.Values.{address_of, top, dropped}
 use Rattle.machine.specs.CodeMachine.{call_deed, calls_on}
 use Rattle.machine.specs.Seen.{program_in, shared_in, entry_in, room_in}
-use Rattle.machine.proofs.decide.calls.Goals as goal
+use Rattle.machine.proofs.calling.calls.Goals as goal
 
 pub returns-in-Some : goal.returns-in-Some
 returns-in-Some c =
