@@ -53,25 +53,32 @@ pub(crate) fn stores(cell: &mut ThreadCell, slot: u16, value: Value, place: u32)
     cell.drop_to(1, place);
 }
 
+/// The thread that does something, the program that it runs, and where memory comes from.
+#[derive(Clone, Copy)]
+pub(crate) struct Actor<'a> {
+    pub(crate) alloc: Global,
+    pub(crate) program: &'a CoreProgram,
+    pub(crate) thread: u32,
+}
+
 /// A lock that no other thread holds is taken once more.
 pub(crate) fn takes(
-    alloc: Global,
+    actor: &Actor<'_>,
     locks: &mut Locks,
     cell: &mut ThreadCell,
-    thread: u32,
     address: Address,
     place: u32,
 ) -> Result<(), NoMemory>
     requires top { IsSome (top_frame cell.old) }
-    requires may { MayTake thread (map.get locks.old address) }
+    requires may { MayTake actor.now.thread (map.get locks.old address) }
     ensures ok { OnOk result (code_thread cell.new ≡ on_top (takes_on address place) (code_thread cell.old)) }
-    ensures lock { OnOk result (locks.new ≡ map.insert locks.old address (taken_by thread (map.get locks.old address))) }
+    ensures lock { OnOk result (locks.new ≡ map.insert locks.old address (taken_by actor.now.thread (map.get locks.old address))) }
     ensures err { OnErr result (cell.new ≡ cell.old) }
     ensures kept { OnErr result (locks.new ≡ locks.old) }
     ensures roomy { (rooms : List ℕ) → StaysRoomy rooms cell.old cell.new }
 {
     cell.lock_taken(address)?;
-    if locks.take(alloc, address, thread).is_err() {
+    if locks.take(actor.alloc, address, actor.thread).is_err() {
         cell.lock_given();
         return Err(NoMemory);
     }
@@ -174,32 +181,37 @@ fn next_address(heap: &Heap, thread: u32) -> Address
 
 /// An object of a class is made, from the topmost operands as the arguments for its final fields.
 pub(crate) fn makes_next(
-    alloc: Global,
-    program: &CoreProgram,
+    actor: &Actor<'_>,
     heap: &mut Heap,
     cell: &mut ThreadCell,
-    thread: u32,
-    object: NewObject,
+    class: ClassId,
+    arguments: usize,
+    place: u32,
 ) -> Result<(), NoMemory>
     requires top { IsSome (top_frame cell.old) }
     requires numbered { IsNumbered heap.old }
-    requires few { made_by thread heap.old < 4294967296 }
-    ensures ok { OnOk result (code_thread cell.new ≡ on_top (advanced object.arguments (Some (value.Ref (record { thread = thread; count = made_by thread heap.old }))) object.place) (code_thread cell.old)) }
-    ensures object { OnOk result (heap.new ≡ map.insert heap.old (record { thread = thread; count = made_by thread heap.old })
-        (record { class = object.class; values = new_values (program_of program.now) (fields_of (slice_get (program_of program.now).classes object.class)) (listed object.arguments (operands_of (top_frame cell.old))) })) }
+    requires few { made_by actor.now.thread heap.old < 4294967296 }
+    ensures ok { OnOk result (code_thread cell.new ≡ on_top (advanced arguments (Some (value.Ref (record { thread = actor.now.thread; count = made_by actor.now.thread heap.old }))) place) (code_thread cell.old)) }
+    ensures object { OnOk result (heap.new ≡ map.insert heap.old (record { thread = actor.now.thread; count = made_by actor.now.thread heap.old })
+        (record { class = class; values = new_values (program_of actor.now.program.now) (fields_of (slice_get (program_of actor.now.program.now).classes class)) (listed arguments (operands_of (top_frame cell.old))) })) }
     ensures err { OnErr result (code_thread cell.new ≡ code_thread cell.old) }
     ensures kept { OnErr result (heap.new ≡ heap.old) }
     ensures roomy { (rooms : List ℕ) → StaysRoomy rooms cell.old cell.new }
 {
-    let address = next_address(heap, thread);
+    let address = next_address(heap, actor.thread);
     let values = object_values(
-        alloc,
-        program,
-        object.class,
+        actor.alloc,
+        actor.program,
+        class,
         cell.operands(),
-        object.arguments,
+        arguments,
     )?;
-    makes(alloc, heap, cell, address, object, values)
+    let object = NewObject {
+        class,
+        arguments,
+        place,
+    };
+    makes(actor.alloc, heap, cell, address, object, values)
 }
 
 /// The values of a new object of a class.

@@ -8,11 +8,12 @@ ghost use Rattle.machine.specs.Counts.{IsCounted};
 ghost use Rattle.machine.specs.Rooms.{StaysRoomy, HasRoomOf, FitsIn};
 ghost use Rattle.machine.specs.Deeds.{Can, called_thread, given_on, deed_thread, deed_heap, deed_locks, deed_output, seen_of, operands_in};
 
-use crate::act::{NewObject, drops, gives, goes, makes_next, prints, stores, takes, writes};
+use crate::act::{Actor, drops, gives, goes, makes_next, prints, stores, takes, writes};
 use crate::deed::Deed;
 use crate::make::slots_of;
 use crate::shared::SharedState;
 use core_program::{CoreMethod, CoreProgram};
+use paths::MethodId;
 use state::{Address, Entered, Fault, ThreadCell, Value};
 use std::alloc::{AllocError as NoMemory, Global};
 
@@ -23,6 +24,30 @@ struct Entering {
     arguments: usize,
     address: Address,
     place: u32,
+}
+
+/// A method, with the place where its code begins and the room that it wants, entered so.
+fn entering(
+    method: MethodId,
+    arguments: usize,
+    address: Address,
+    place: u32,
+    entry: u32,
+    room: u32,
+) -> Entering
+    ensures { result ≡ record { entered = record { method = method; entry = entry; room = room }; arguments = arguments; address = address; place = place } }
+{
+    let entered = Entered {
+        method,
+        entry,
+        room,
+    };
+    Entering {
+        entered,
+        arguments,
+        address,
+        place,
+    }
 }
 
 /// A method that is there is entered on an object.
@@ -92,20 +117,18 @@ fn returns(cell: &mut ThreadCell, gives: Option<Value>) -> Result<(), NoMemory>
 
 /// A deed of a running thread is done, but for the start of another thread. Nothing is done where the thread waits.
 pub(crate) fn perform(
-    alloc: Global,
-    program: &CoreProgram,
+    actor: &Actor<'_>,
     shared: &mut SharedState,
     cell: &mut ThreadCell,
-    thread: u32,
     deed: Deed,
 ) -> Result<(), NoMemory>
     requires top { IsSome (top_frame cell.old) }
     requires running { is_running cell.old ≡ true }
-    requires can { Can (program_of program.now) (seen_of thread shared.old.heap shared.old.locks) thread (slots_of (top_frame cell.old)) deed }
+    requires can { Can (program_of actor.now.program.now) (seen_of actor.now.thread shared.old.heap shared.old.locks) actor.now.thread (slots_of (top_frame cell.old)) deed }
     requires counted { (n : ℕ) × (n < 4294967295) × IsCounted n shared.old.heap shared.old.locks }
-    ensures cell { OnOk result (code_thread cell.new ≡ deed_thread (program_of program.now) (seen_of thread shared.old.heap shared.old.locks) thread deed (code_thread cell.old)) }
-    ensures heap { OnOk result (shared.new.heap ≡ deed_heap (program_of program.now) (seen_of thread shared.old.heap shared.old.locks) thread (operands_in (code_thread cell.old)) deed shared.old.heap) }
-    ensures locks { OnOk result (shared.new.locks ≡ deed_locks (seen_of thread shared.old.heap shared.old.locks) thread deed shared.old.locks) }
+    ensures cell { OnOk result (code_thread cell.new ≡ deed_thread (program_of actor.now.program.now) (seen_of actor.now.thread shared.old.heap shared.old.locks) actor.now.thread deed (code_thread cell.old)) }
+    ensures heap { OnOk result (shared.new.heap ≡ deed_heap (program_of actor.now.program.now) (seen_of actor.now.thread shared.old.heap shared.old.locks) actor.now.thread (operands_in (code_thread cell.old)) deed shared.old.heap) }
+    ensures locks { OnOk result (shared.new.locks ≡ deed_locks (seen_of actor.now.thread shared.old.heap shared.old.locks) actor.now.thread deed shared.old.locks) }
     ensures output { OnOk result (shared.new.output.items ≡ deed_output deed shared.old.output.items) }
     ensures cell_kept { OnErr result (code_thread cell.new ≡ code_thread cell.old) }
     ensures heap_kept { OnErr result (shared.new.heap ≡ shared.old.heap) }
@@ -115,19 +138,13 @@ pub(crate) fn perform(
     ensures lean { (f : CellFrame) → top_frame cell.old ≡ Some f → FitsIn f (rest_of (frames_in cell.old)) deed → IsOk result }
 {
     match deed {
-        Deed::Fails(kind) => {
-            faults(cell, kind);
-            Ok(())
-        }
+        Deed::Fails(kind) => Ok(faults(cell, kind)),
         Deed::Goes {
             drops,
             gives,
             place,
         } => goes(cell, drops, gives, place),
-        Deed::Stores { slot, value, place } => {
-            stores(cell, slot, value, place);
-            Ok(())
-        }
+        Deed::Stores { slot, value, place } => Ok(stores(cell, slot, value, place)),
         Deed::Reads { value, place, .. } => goes(cell, 1, Some(value), place),
         Deed::Writes {
             address,
@@ -135,22 +152,12 @@ pub(crate) fn perform(
             value,
             place,
             ..
-        } => {
-            writes(&mut shared.heap, cell, address, index, value, place);
-            Ok(())
-        }
+        } => Ok(writes(&mut shared.heap, cell, address, index, value, place)),
         Deed::Makes {
             class,
             arguments,
             place,
-        } => {
-            let object = NewObject {
-                class,
-                arguments,
-                place,
-            };
-            makes_next(alloc, program, &mut shared.heap, cell, thread, object)
-        }
+        } => makes_next(actor, &mut shared.heap, cell, class, arguments, place),
         Deed::Enters {
             method,
             arguments,
@@ -159,32 +166,14 @@ pub(crate) fn perform(
             entry,
             room,
         } => {
-            let entered = Entered {
-                method,
-                entry,
-                room,
-            };
-            let at = Entering {
-                entered,
-                arguments,
-                address,
-                place,
-            };
-            enters(alloc, program, cell, at)
+            let at = entering(method, arguments, address, place, entry, room);
+            enters(actor.alloc, actor.program, cell, at)
         }
-        Deed::Takes { address, place, .. } => {
-            takes(alloc, &mut shared.locks, cell, thread, address, place)
-        }
+        Deed::Takes { address, place, .. } => takes(actor, &mut shared.locks, cell, address, place),
         Deed::Waits { .. } => Ok(()),
-        Deed::Gives { address, place, .. } => {
-            gives(&mut shared.locks, cell, address, place);
-            Ok(())
-        }
+        Deed::Gives { address, place, .. } => Ok(gives(&mut shared.locks, cell, address, place)),
         Deed::Returns { gives } => returns(cell, gives),
         Deed::Prints { number, place } => prints(&mut shared.output, cell, number, place),
-        Deed::Starts { place, .. } => {
-            drops(cell, 1, place);
-            Ok(())
-        }
+        Deed::Starts { place, .. } => Ok(drops(cell, 1, place)),
     }
 }

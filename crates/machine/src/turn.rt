@@ -13,7 +13,7 @@ ghost use Rattle.machine.specs.Counts.{IsCounted};
 ghost use Rattle.machine.specs.Rooms.{StaysRoomy, AllRoomy, HasRoomOf, FitsIn, TurnFits};
 ghost use Rattle.machine.specs.Taken.{first_thread, step_result, ComesTo, IsTaken, state_in};
 
-use crate::act::drops;
+use crate::act::{Actor, drops};
 use crate::deed::{Deed, StepEnd, Turn};
 use crate::make::slots_of;
 use crate::perform::perform;
@@ -127,7 +127,14 @@ fn does(
     ensures lean { (f : CellFrame) (below : List CellFrame) → slice_get threads.old.items thread ≡ Some (Running (f ∷ below)) → FitsIn f below deed → IsOk result }
 {
     match threads.get_mut(thread as usize) {
-        Some(cell) => perform(alloc, program, shared, cell, thread, deed),
+        Some(cell) => {
+            let actor = Actor {
+                alloc,
+                program,
+                thread,
+            };
+            perform(&actor, shared, cell, deed)
+        }
         None => Ok(()),
     }
 }

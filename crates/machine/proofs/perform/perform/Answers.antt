@@ -10,13 +10,13 @@ pub makes_next-requires-clause-numbered : goal.makes_next-requires-clause-number
 makes_next-requires-clause-numbered c = c.requires.counted.2.numbered
 
 pub makes_next-requires-clause-few : goal.makes_next-requires-clause-few
-makes_next-requires-clause-few c = omega (arith, c.requires.counted.2.objects c.args.thread, c.requires.counted.1)
+makes_next-requires-clause-few c = omega (arith, c.requires.counted.2.objects c.args.actor.now.thread, c.requires.counted.1)
 
 pub takes-requires-clause-may : goal.takes-requires-clause-may
 takes-requires-clause-may c =
     let k = c.requires.counted in
-    may_take k.0 c.args.thread (map.get c.args.shared.now.locks c.in-Takes.address) k.1 (λ hold is. k.2.holds c.in-Takes.address hold is)
-    (subst (λ d. Can (program_of c.args.program.now) (seen_of c.args.thread c.args.shared.now.heap c.args.shared.now.locks) c.args.thread (slots_of (top_frame c.args.cell.now)) d) c.in-Takes.is c.requires.can)
+    may_take k.0 c.args.actor.now.thread (map.get c.args.shared.now.locks c.in-Takes.address) k.1 (λ hold is. k.2.holds c.in-Takes.address hold is)
+    (subst (λ d. Can (program_of c.args.actor.now.program.now) (seen_of c.args.actor.now.thread c.args.shared.now.heap c.args.shared.now.locks) c.args.actor.now.thread (slots_of (top_frame c.args.cell.now)) d) c.in-Takes.is c.requires.can)
 
 pub returns-in-Fails-clause-roomy : goal.returns-in-Fails-clause-roomy
 returns-in-Fails-clause-roomy c rooms wants = c.faults.ensures.roomy rooms
