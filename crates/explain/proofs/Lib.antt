@@ -7,7 +7,6 @@ pub mod WhyErrors
 pub mod AllVisits
 pub mod Numbering
 pub mod Helping
-pub mod BookNumbers
 -- Lemmas on walks, on names, on which methods are told, and on reasons.
 pub mod Walking
 pub mod Measures

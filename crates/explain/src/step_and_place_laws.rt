@@ -1,6 +1,6 @@
 //! The laws of steps, errors, places and locks that would help. Nothing is asked of the assignment, the relevant paths or the program.
 
-ghost use Rattle.std.specs.Prelude.{◌≡◌, ◌≢◌, ◌↔◌, ℕ, List, [], Contains, Some, true, IsSome, map};
+ghost use Rattle.std.specs.Prelude.{◌≡◌, ◌≢◌, ◌↔◌, ℕ, List, [], Contains, Some, true, IsSome};
 ghost use Rattle.paths.specs.Paths.{PathData};
 ghost use Rattle.algebra.specs.declared.basic.Basic.TheVariants.{Mover, Atomic, Cmpd, Error};
 ghost use Rattle.algebra.specs.HeldPaths.{Held, with_path};
@@ -8,8 +8,6 @@ ghost use Rattle.core_program.specs.Core.{Program};
 ghost use Rattle.rules.specs.Effect.{Assignment};
 ghost use Rattle.rules.specs.Rules.{AtMost};
 ghost use Rattle.effects.specs.Parts.{Part};
-ghost use Rattle.book_check.specs.Parts.{Each, FitsPart, places};
-ghost use Rattle.books.specs.Derivations.{Node};
 ghost use Rattle.explain.specs.PartEffects.{own_of, effect_of_part, parts_in};
 ghost use Rattle.explain.specs.Visits.{Visit, part_visits};
 ghost use Rattle.explain.specs.Steps.{movable_steps};
@@ -36,13 +34,11 @@ pub fn error_laws()
         first_error P rel A (part_visits P x n H) ≡ Some v → IsFirstError P rel A (part_visits P x n H) v }
 {}
 
-/// Each step is a visited part, and each visited part has the number of its place among all parts; these are the parts that the
-/// nodes of a derivation stand for, in order.
+/// Each step is a visited part, and each visited part has the number of its place among all parts.
 pub fn place_laws()
     ensures visited { (P : Program) (rel : ℕ → List PathData) (A : Assignment) (x : Part) (n : ℕ) (H : Held) (v : Visit) →
         Contains (movable_steps P rel A x n H) v → Contains (part_visits P x n H) v }
     ensures numbered { (P : Program) (x : Part) (n : ℕ) (H : Held) (v : Visit) → Contains (part_visits P x n H) v → HasNumberOfPart (parts_in x) n v }
-    ensures books { (x : Part) (d : Node) → Each FitsPart (places x d) → map (λ place. place.part) (places x d) ≡ parts_in x }
 {}
 
 /// With the path that would help held, the part by itself can be moved.

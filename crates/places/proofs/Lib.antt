@@ -6,3 +6,5 @@ pub mod InStep
 pub mod InStepStmts
 pub mod AtNumbers
 pub mod InPrograms
+-- Numbers of the nodes of a book.
+pub mod BookNumbers

@@ -1,12 +1,14 @@
-//! The law that nodes and what they were made of are in step.
+//! The laws that nodes and what they were made of are in step, and that a book numbers them so.
 
-ghost use Rattle.std.specs.Prelude.{◌≡◌, ℕ, List, length, Option, Some, slice_get, Contains};
+ghost use Rattle.std.specs.Prelude.{◌≡◌, ℕ, List, length, Option, Some, slice_get, Contains, map};
 ghost use Rattle.syntax.specs.Trees.{ExprTree, StmtTree, MethodTree, ProgramTree};
 ghost use Rattle.algebra.specs.HeldPaths.{Held};
 ghost use Rattle.core_program.specs.declared.types.CoreType.{CoreType};
 ghost use Rattle.core_program.specs.Core.{Program, Method, Stmt, Stmts, BlockS};
 ghost use Rattle.effects.specs.Parts.{Part, StmtP};
-ghost use Rattle.explain.specs.PartEffects.{expr_parts, stmt_parts};
+ghost use Rattle.books.specs.Derivations.{Node};
+ghost use Rattle.book_check.specs.Parts.{Each, FitsPart, places};
+ghost use Rattle.explain.specs.PartEffects.{expr_parts, stmt_parts, parts_in};
 ghost use Rattle.explain.specs.Visits.{Visit, part_visits};
 ghost use Rattle.classes.specs.Table.{TableData, table_of};
 ghost use Rattle.typing.specs.Rules.{TypedData};
@@ -39,4 +41,10 @@ pub fn place_laws()
         HasTree (table_of tree) tree k method }
     ensures visited { (t : TableData) (P : Program) (method : Method) (m : MethodTree) (H : Held) (v : Visit) → IsMadeOf t method m →
         Contains (part_visits P (StmtP method.body) 0 H) v → IsToldAt t method m v }
+{}
+
+/// The nodes of a derivation that fits stand for the parts of a body, in order. So a node of a book, an effect of `--all` and a place
+/// of the source have the same number.
+pub fn book_numbers()
+    ensures parts { (x : Part) (d : Node) → Each FitsPart (places x d) → map (λ place. place.part) (places x d) ≡ parts_in x }
 {}

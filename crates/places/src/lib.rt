@@ -9,7 +9,7 @@ mod offsets;
 mod slots;
 
 pub use index::LineIndex;
-pub use laws::{in_step, place_laws};
+pub use laws::{book_numbers, in_step, place_laws};
 pub use methods::methods_in;
 pub use offsets::method_places;
 pub use slots::{SlotNames, slot_names};

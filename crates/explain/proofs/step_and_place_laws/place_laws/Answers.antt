@@ -1,6 +1,5 @@
 use Rattle.explain.proofs.AllVisits.{part_among}
 use Rattle.explain.proofs.Numbering.{part_numbered}
-use Rattle.explain.proofs.BookNumbers.{same_parts}
 use Rattle.explain.proofs.step_and_place_laws.place_laws.Goals as goal
 
 pub returns-clause-visited : goal.returns-clause-visited
@@ -8,6 +7,3 @@ returns-clause-visited c = part_among
 
 pub returns-clause-numbered : goal.returns-clause-numbered
 returns-clause-numbered c = part_numbered
-
-pub returns-clause-books : goal.returns-clause-books
-returns-clause-books c = same_parts
