@@ -27,7 +27,7 @@ struct Entering {
 }
 
 /// A method, with the place where its code begins and the room that it wants, entered so.
-fn entering(
+fn call_to_enter(
     method: MethodId,
     arguments: usize,
     address: Address,
@@ -166,7 +166,7 @@ pub(crate) fn perform(
             entry,
             room,
         } => {
-            let at = entering(method, arguments, address, place, entry, room);
+            let at = call_to_enter(method, arguments, address, place, entry, room);
             enters(actor.alloc, actor.program, cell, at)
         }
         Deed::Takes { address, place, .. } => takes(actor, &mut shared.locks, cell, address, place),
