@@ -55,12 +55,12 @@ fn enters_found(
     alloc: Global,
     found: &CoreMethod,
     cell: &mut ThreadCell,
-    at: Entering,
+    at: &Entering,
 ) -> Result<(), NoMemory>
     requires { is_running cell.old ≡ true }
-    ensures ok { OnOk result (code_thread cell.new ≡ called_thread at.entered.method (Some (method_of found.now)) (value.Ref at.address) at.arguments at.place at.entered.entry (code_thread cell.old)) }
+    ensures ok { OnOk result (code_thread cell.new ≡ called_thread at.now.entered.method (Some (method_of found.now)) (value.Ref at.now.address) at.now.arguments at.now.place at.now.entered.entry (code_thread cell.old)) }
     ensures err { OnErr result (cell.new ≡ cell.old) }
-    ensures roomy { (rooms : List ℕ) → slice_get rooms at.entered.method ≡ Some at.entered.room → StaysRoomy rooms cell.old cell.new }
+    ensures roomy { (rooms : List ℕ) → slice_get rooms at.now.entered.method ≡ Some at.now.entered.room → StaysRoomy rooms cell.old cell.new }
 {
     // No list of parameters is so long.
     if at.arguments == usize::MAX {
@@ -81,12 +81,12 @@ fn enters(
     alloc: Global,
     program: &CoreProgram,
     cell: &mut ThreadCell,
-    at: Entering,
+    at: &Entering,
 ) -> Result<(), NoMemory>
     requires { is_running cell.old ≡ true }
-    ensures ok { OnOk result (code_thread cell.new ≡ called_thread at.entered.method (slice_get (program_of program.now).methods at.entered.method) (value.Ref at.address) at.arguments at.place at.entered.entry (code_thread cell.old)) }
+    ensures ok { OnOk result (code_thread cell.new ≡ called_thread at.now.entered.method (slice_get (program_of program.now).methods at.now.entered.method) (value.Ref at.now.address) at.now.arguments at.now.place at.now.entered.entry (code_thread cell.old)) }
     ensures err { OnErr result (cell.new ≡ cell.old) }
-    ensures roomy { (rooms : List ℕ) → slice_get rooms at.entered.method ≡ Some at.entered.room → StaysRoomy rooms cell.old cell.new }
+    ensures roomy { (rooms : List ℕ) → slice_get rooms at.now.entered.method ≡ Some at.now.entered.room → StaysRoomy rooms cell.old cell.new }
 {
     let method = at.entered.method;
     match program.methods.get(method.0 as usize) {
@@ -167,7 +167,7 @@ pub(crate) fn perform(
             room,
         } => {
             let at = call_to_enter(method, arguments, address, place, entry, room);
-            enters(actor.alloc, actor.program, cell, at)
+            enters(actor.alloc, actor.program, cell, &at)
         }
         Deed::Takes { address, place, .. } => takes(actor, &mut shared.locks, cell, address, place),
         Deed::Waits { .. } => Ok(()),

@@ -1,7 +1,10 @@
-use Rattle.std.proofs.Common.{subst, arith}
+use Rattle.std.proofs.Common.{◌≡◌, subst, sym, arith}
+use Rattle.std.specs.Prelude.{Some, OnOk, slice_get}
 use Rattle.core_program.specs.Views.{program_of}
-use Rattle.state.specs.Frames.{slots_of, top_frame}
-use Rattle.machine.specs.Deeds.{Can, seen_of}
+use Rattle.state.specs.declared.value.Value.TheVariants as value
+use Rattle.state.specs.Frames.{slots_of, top_frame, code_thread}
+use Rattle.machine.specs.Deeds.{Can, seen_of, called_thread, deed_thread}
+use Rattle.machine.specs.Rooms.{HasRoomOf}
 use Rattle.std.specs.FinMap as map
 use Rattle.machine.proofs.Counting.{may_take}
 use Rattle.machine.proofs.perform.perform.Goals as goal
@@ -50,3 +53,17 @@ returns-in-Prints-clause-roomy c rooms wants = c.prints.ensures.roomy rooms
 
 pub returns-in-Starts-clause-roomy : goal.returns-in-Starts-clause-roomy
 returns-in-Starts-clause-roomy c rooms wants = c.drops.ensures.roomy rooms
+
+pub returns-in-Enters-clause-cell : goal.returns-in-Enters-clause-cell
+returns-in-Enters-clause-cell c =
+    let P = program_of c.args.actor.now.program.now in
+    let see = seen_of c.args.actor.now.thread c.args.shared.now.heap c.args.shared.now.locks in
+    let is = c.call_to_enter-at.ensures in
+    subst (λ d. OnOk c.enters.result (code_thread c.enters.new.cell ≡ deed_thread P see c.args.actor.now.thread d (code_thread c.args.cell.now))) (sym c.in-Enters.is)
+    (subst (λ X. X) (λ j. OnOk c.enters.result (code_thread c.enters.new.cell ≡ called_thread (is j).entered.method (slice_get P.methods (is j).entered.method) (value.Ref (is j).address) (is j).arguments (is j).place (is j).entered.entry (code_thread c.args.cell.now))) c.enters.ensures.ok)
+
+pub returns-in-Enters-clause-roomy : goal.returns-in-Enters-clause-roomy
+returns-in-Enters-clause-roomy c rooms wants =
+    let is = c.call_to_enter-at.ensures in
+    c.enters.ensures.roomy rooms
+    (subst (λ X. X) (λ j. slice_get rooms (sym is j).entered.method ≡ Some (sym is j).entered.room) (subst (λ d. HasRoomOf rooms d) c.in-Enters.is wants))
