@@ -7,11 +7,11 @@ use Rattle.sources.specs.declared.refusal.Ending.TheVariants as ending
 use Rattle.sources.specs.Facts.{RefusedAs}
 use Rattle.sources.specs.Refusals.{code_of}
 use Rattle.sources.proofs.Apart.{no_accepted_is}
+use Rattle.sources.specs.Files.{WritesText}
 use Rattle.commands.specs.declared.command.Command.TheVariants.{Verify}
 use Rattle.commands.specs.Rows.{Row}
 use Rattle.commands.specs.Files.{IsAskedRow}
 use Rattle.commands.specs.Answers.{Belongs, too_large, ended, IsExactStatus}
-use Rattle.commands.specs.Said.{WritesAnswer}
 use Rattle.evidence_commands.specs.Derive.{DeriveAnswer, not_accepted, derived}
 use Rattle.evidence_commands.specs.Verify.{VerifyFact}
 use Rattle.edge.specs.Calls.{Call, HasNoFault}
@@ -39,7 +39,7 @@ module _ (call : Call) where
 
   -- the sentence, from when statuses come and from what comes where nothing failed
   pub books_of : ((row : Row) (files : List (List ℕ)) → IsAskedRow call.words call.told row files → IsExactStatus row files call.status)
-      → ((row : Row) (files : List (List ℕ)) → IsAskedRow call.words call.told row files → HasNoFault call row.names → (call.status ≡ 8) ⊎ WritesAnswer row files call.status call.written_before call.written_after)
+      → ((row : Row) (files : List (List ℕ)) → IsAskedRow call.words call.told row files → HasNoFault call row.names → (call.status ≡ 8) ⊎ WritesText (Belongs row files call.status) call.written_before call.written_after)
       → Books call
   books_of exact complete = record {
     sound = λ source_name book_name file bytes is done.
@@ -51,7 +51,7 @@ module _ (call : Call) where
   }
     where
       by : (source_name book_name file bytes : List ℕ) → IsVerifyOf call source_name book_name file bytes → VerifyFact file bytes ending.Done
-          → (call.status ≡ 8) ⊎ WritesAnswer (record { command = Verify; names = source_name ∷ book_name ∷ [] }) (file ∷ bytes ∷ []) call.status call.written_before call.written_after
+          → (call.status ≡ 8) ⊎ WritesText (Belongs (record { command = Verify; names = source_name ∷ book_name ∷ [] }) (file ∷ bytes ∷ []) call.status) call.written_before call.written_after
           → (call.status ≡ 8) ⊎ (call.status ≡ 0)
       by source_name book_name file bytes is fact (inl eight) = inl eight
       by source_name book_name file bytes is fact (inr w) = inr (verified_by source_name book_name file bytes is fact call.status w.text w.belongs)

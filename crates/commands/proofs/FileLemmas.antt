@@ -3,13 +3,14 @@ use Rattle.std.proofs.Common.{◌≡◌, ◌≢◌, ◌<◌, ◌≤◌, ℕ, zer
 use Rattle.std.proofs.lemmas.Bool.Decides.{nat_tests}
 use Rattle.std.proofs.lemmas.List.{length-replicate}
 use Rattle.std.proofs.lemmas.Option.{slice_get_within, get_or_from_slice_get}
+use Rattle.sources.specs.Files.{HasSameFaults}
 use Rattle.edge.specs.declared.transfer.ReadEnd.{ReadEnd}
 use Rattle.edge.specs.declared.transfer.ReadEnd.TheVariants as ends
 use Rattle.edge.specs.Faults.{Rose}
 use Rattle.commands.specs.declared.files.Unread.{Unread}
 use Rattle.commands.specs.declared.files.Unread.TheVariants as unread
 use Rattle.commands.specs.Files.{AreFilesTold, AreBounded, first_over}
-use Rattle.commands.specs.Reading.{AreTheirs, AreWithinBefore, HasSameFaults, AreRead, IsFirstUnread, IsFirstOver}
+use Rattle.commands.specs.Reading.{AreTheirs, AreWithinBefore, AreRead, IsFirstUnread, IsFirstOver}
 use Rattle.commands.specs.Outcomes.{HasMore, IsUnreadFor}
 
 -- a fact on what is told of one file

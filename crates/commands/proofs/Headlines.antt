@@ -27,9 +27,9 @@ use Rattle.commands.specs.declared.command.Command.TheVariants.{Check, Serialise
 use Rattle.commands.specs.Rows.{Row}
 use Rattle.commands.specs.Files.{IsAskedRow, first_over}
 use Rattle.sources.specs.Check.{CheckAnswer, not_accepted as not_checked, judged}
+use Rattle.sources.specs.Files.{WritesText}
 use Rattle.schedule_commands.specs.Serialise.{SerialiseAnswer, SerialiseFact, not_accepted, no_schedule, no_order, serialised}
 use Rattle.commands.specs.Answers.{Belongs, too_large, ended}
-use Rattle.commands.specs.Said.{WritesAnswer}
 use Rattle.edge.specs.Calls.{Call, HasNoFault}
 use Rattle.commands.specs.Headline.{WritesRearrangement, NamesBroken, RefusesExactly, Headline}
 use Rattle.schedule_commands.proofs.ScheduleEndings.{serialise_caused, serialise_apart, refused_text, order_ends}
@@ -115,7 +115,7 @@ module _ (call : Call) where
       }
 
   -- the sentence, from what comes where nothing failed
-  pub headline_of : ((row : Row) (files : List (List ℕ)) → IsAskedRow call.words call.told row files → HasNoFault call row.names → (call.status ≡ 8) ⊎ WritesAnswer row files call.status call.written_before call.written_after)
+  pub headline_of : ((row : Row) (files : List (List ℕ)) → IsAskedRow call.words call.told row files → HasNoFault call row.names → (call.status ≡ 8) ⊎ WritesText (Belongs row files call.status) call.written_before call.written_after)
       → Headline call
   headline_of complete = record {
     serialise = λ source_name schedule_name file text said told_file told_text small short calm tree P source accepted s q schedule runs outside.
@@ -137,7 +137,7 @@ module _ (call : Call) where
           written_done file text out done (serialise_apart file text done ending.Done (serialise_caused file text done out answer) fact) answer e wrote tree P s q source schedule runs
 
       serialise_by : (source_name schedule_name file text : List ℕ) → length file ≤ longest_source → length text ≤ longest_second_file → (tree : ProgramTree) (P : Program) → IsWellFormedSource file tree P → IsAccepted P → (s : List ℕ) (q : State) → IsSchedule text s → run P s ≡ Some q → open_thread P q ≡ None
-          → (call.status ≡ 8) ⊎ WritesAnswer (record { command = Serialise; names = source_name ∷ schedule_name ∷ [] }) (file ∷ text ∷ []) call.status call.written_before call.written_after → (call.status ≡ 8) ⊎ WritesRearrangement call P s q
+          → (call.status ≡ 8) ⊎ WritesText (Belongs (record { command = Serialise; names = source_name ∷ schedule_name ∷ [] }) (file ∷ text ∷ []) call.status) call.written_before call.written_after → (call.status ≡ 8) ⊎ WritesRearrangement call P s q
       serialise_by source_name schedule_name file text small short tree P source accepted s q schedule runs outside (inl eight) = inl eight
       serialise_by source_name schedule_name file text small short tree P source accepted s q schedule runs outside (inr w) =
           inr (serialise_answer source_name schedule_name file text small short tree P source accepted s q schedule runs outside call.status w.text refl w.written w.belongs)
@@ -148,6 +148,6 @@ module _ (call : Call) where
       check_answer name file small tree P source _ _ e wrote (ended done out within answer) = judged_exactly file out done answer e wrote tree P source
 
       check_by : (name file : List ℕ) → length file ≤ longest_source → (tree : ProgramTree) (P : Program) → IsWellFormedSource file tree P
-          → (call.status ≡ 8) ⊎ WritesAnswer (record { command = Check; names = name ∷ [] }) (file ∷ []) call.status call.written_before call.written_after → (call.status ≡ 8) ⊎ RefusesExactly call P (table_of tree)
+          → (call.status ≡ 8) ⊎ WritesText (Belongs (record { command = Check; names = name ∷ [] }) (file ∷ []) call.status) call.written_before call.written_after → (call.status ≡ 8) ⊎ RefusesExactly call P (table_of tree)
       check_by name file small tree P source (inl eight) = inl eight
       check_by name file small tree P source (inr w) = inr (check_answer name file small tree P source call.status w.text refl w.written w.belongs)

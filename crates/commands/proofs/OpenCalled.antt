@@ -15,6 +15,7 @@ use Rattle.sources.specs.Refusals.{code_of}
 use Rattle.sources.specs.Checking.{IsWellFormedSource}
 use Rattle.sources.specs.Facts.{RefusedAs}
 use Rattle.sources.proofs.Apart.{same_core, no_accepted_is}
+use Rattle.sources.specs.Files.{WritesText}
 use Rattle.state.specs.States.{State}
 use Rattle.semantics.specs.Run.{run, open_thread, IsRearrangement}
 use Rattle.semantics.specs.Units.{written_order}
@@ -24,7 +25,6 @@ use Rattle.commands.specs.Rows.{Row}
 use Rattle.commands.specs.Files.{IsAskedRow}
 use Rattle.schedule_commands.specs.SerialiseOpen.{SerialiseOpenAnswer, SerialiseOpenFact, not_accepted, no_schedule, no_run, in_order}
 use Rattle.commands.specs.Answers.{Belongs, too_large, ended}
-use Rattle.commands.specs.Said.{WritesAnswer}
 use Rattle.edge.specs.Calls.{Call, HasNoFault}
 use Rattle.commands.specs.OpenCalls.{WritesGathered, OpenCalls}
 use Rattle.schedule_commands.proofs.ScheduleEndings.{refused_text, refused_run}
@@ -59,7 +59,7 @@ module _ (call : Call) where
       }
 
   -- the sentence, from what comes where nothing failed
-  pub open_calls_of : ((row : Row) (files : List (List ℕ)) → IsAskedRow call.words call.told row files → HasNoFault call row.names → (call.status ≡ 8) ⊎ WritesAnswer row files call.status call.written_before call.written_after)
+  pub open_calls_of : ((row : Row) (files : List (List ℕ)) → IsAskedRow call.words call.told row files → HasNoFault call row.names → (call.status ≡ 8) ⊎ WritesText (Belongs row files call.status) call.written_before call.written_after)
       → OpenCalls call
   open_calls_of complete = record {
     opens = λ source_name schedule_name file text said told_file told_text small short calm tree P source accepted s q schedule runs.
@@ -77,7 +77,7 @@ module _ (call : Call) where
           written_open file text out done (open_apart file text done ending.Done (open_caused file text done out answer) fact) answer e wrote tree P s q source schedule runs
 
       opens_by : (source_name schedule_name file text : List ℕ) → length file ≤ longest_source → length text ≤ longest_second_file → (tree : ProgramTree) (P : Program) → IsWellFormedSource file tree P → IsAccepted P → (s : List ℕ) (q : State) → IsSchedule text s → run P s ≡ Some q
-          → (call.status ≡ 8) ⊎ WritesAnswer (record { command = SerialiseOpen; names = source_name ∷ schedule_name ∷ [] }) (file ∷ text ∷ []) call.status call.written_before call.written_after → (call.status ≡ 8) ⊎ WritesGathered call P s q
+          → (call.status ≡ 8) ⊎ WritesText (Belongs (record { command = SerialiseOpen; names = source_name ∷ schedule_name ∷ [] }) (file ∷ text ∷ []) call.status) call.written_before call.written_after → (call.status ≡ 8) ⊎ WritesGathered call P s q
       opens_by source_name schedule_name file text small short tree P source accepted s q schedule runs (inl eight) = inl eight
       opens_by source_name schedule_name file text small short tree P source accepted s q schedule runs (inr w) =
           inr (open_answer source_name schedule_name file text small short tree P source accepted s q schedule runs call.status w.text refl w.written w.belongs)

@@ -4,13 +4,13 @@ use Rattle.lexer.specs.Limits.{longest_source}
 use Rattle.sources.specs.Limits.{longest_second_file}
 use Rattle.sources.specs.declared.refusal.Ending.TheVariants as ending
 use Rattle.sources.specs.Refusals.{code_of}
+use Rattle.sources.specs.Files.{WritesText}
 use Rattle.evidence_commands.specs.Levels.{LevelsFact}
 use Rattle.evidence_commands.proofs.LevelEndings.{levels_caused, levels_apart, reaches_no_circle}
 use Rattle.commands.specs.declared.command.Command.TheVariants.{Levels}
 use Rattle.commands.specs.Rows.{Row}
 use Rattle.commands.specs.Files.{IsAskedRow}
 use Rattle.commands.specs.Answers.{Belongs, too_large, ended, IsExactStatus}
-use Rattle.commands.specs.Said.{WritesAnswer}
 use Rattle.edge.specs.Calls.{Call, HasNoFault}
 use Rattle.commands.specs.NoCircles.{IsLevelsOf, NoCircles}
 use Rattle.commands.proofs.Headlines.{within_both, none_some}
@@ -29,7 +29,7 @@ module _ (call : Call) where
 
   -- the sentence, from when statuses come and from what comes where nothing failed
   pub no_circles_of : ((row : Row) (files : List (List ℕ)) → IsAskedRow call.words call.told row files → IsExactStatus row files call.status)
-      → ((row : Row) (files : List (List ℕ)) → IsAskedRow call.words call.told row files → HasNoFault call row.names → (call.status ≡ 8) ⊎ WritesAnswer row files call.status call.written_before call.written_after)
+      → ((row : Row) (files : List (List ℕ)) → IsAskedRow call.words call.told row files → HasNoFault call row.names → (call.status ≡ 8) ⊎ WritesText (Belongs row files call.status) call.written_before call.written_after)
       → NoCircles call
   no_circles_of exact complete = record {
     sound = λ source_name levels_name file bytes is done.
@@ -46,7 +46,7 @@ module _ (call : Call) where
   }
     where
       by : (source_name levels_name file bytes : List ℕ) → IsLevelsOf call source_name levels_name file bytes → LevelsFact file bytes ending.Done
-          → (call.status ≡ 8) ⊎ WritesAnswer (record { command = Levels; names = source_name ∷ levels_name ∷ [] }) (file ∷ bytes ∷ []) call.status call.written_before call.written_after
+          → (call.status ≡ 8) ⊎ WritesText (Belongs (record { command = Levels; names = source_name ∷ levels_name ∷ [] }) (file ∷ bytes ∷ []) call.status) call.written_before call.written_after
           → (call.status ≡ 8) ⊎ (call.status ≡ 0)
       by source_name levels_name file bytes is fact (inl eight) = inl eight
       by source_name levels_name file bytes is fact (inr w) = inr (ordered_by source_name levels_name file bytes is fact call.status w.text w.belongs)

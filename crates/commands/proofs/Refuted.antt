@@ -6,11 +6,11 @@ use Rattle.sources.specs.declared.refusal.Ending.{Ending}
 use Rattle.sources.specs.declared.refusal.Ending.TheVariants as ending
 use Rattle.sources.specs.Refusals.{code_of}
 use Rattle.sources.proofs.Apart.{no_source_ends}
+use Rattle.sources.specs.Files.{WritesText}
 use Rattle.commands.specs.declared.command.Command.TheVariants.{VerifyBlame}
 use Rattle.commands.specs.Rows.{Row}
 use Rattle.commands.specs.Files.{IsAskedRow}
 use Rattle.commands.specs.Answers.{Belongs, too_large, ended, IsExactStatus}
-use Rattle.commands.specs.Said.{WritesAnswer}
 use Rattle.evidence_commands.specs.Blames.{BlameAnswer, no_source, accepted, blamed}
 use Rattle.evidence_commands.specs.Verifying.{VerifyBlameFact}
 use Rattle.edge.specs.Calls.{Call, HasNoFault}
@@ -39,7 +39,7 @@ module _ (call : Call) where
 
   -- the sentence, from when statuses come and from what comes where nothing failed
   pub refutations_of : ((row : Row) (files : List (List ℕ)) → IsAskedRow call.words call.told row files → IsExactStatus row files call.status)
-      → ((row : Row) (files : List (List ℕ)) → IsAskedRow call.words call.told row files → HasNoFault call row.names → (call.status ≡ 8) ⊎ WritesAnswer row files call.status call.written_before call.written_after)
+      → ((row : Row) (files : List (List ℕ)) → IsAskedRow call.words call.told row files → HasNoFault call row.names → (call.status ≡ 8) ⊎ WritesText (Belongs row files call.status) call.written_before call.written_after)
       → Refutations call
   refutations_of exact complete = record {
     sound = λ source_name certificate_name file bytes is done.
@@ -51,7 +51,7 @@ module _ (call : Call) where
   }
     where
       by : (source_name certificate_name file bytes : List ℕ) → IsVerifyBlameOf call source_name certificate_name file bytes → VerifyBlameFact file bytes ending.Done
-          → (call.status ≡ 8) ⊎ WritesAnswer (record { command = VerifyBlame; names = source_name ∷ certificate_name ∷ [] }) (file ∷ bytes ∷ []) call.status call.written_before call.written_after
+          → (call.status ≡ 8) ⊎ WritesText (Belongs (record { command = VerifyBlame; names = source_name ∷ certificate_name ∷ [] }) (file ∷ bytes ∷ []) call.status) call.written_before call.written_after
           → (call.status ≡ 8) ⊎ (call.status ≡ 0)
       by source_name certificate_name file bytes is fact (inl eight) = inl eight
       by source_name certificate_name file bytes is fact (inr w) = inr (verified_by source_name certificate_name file bytes is fact call.status w.text w.belongs)

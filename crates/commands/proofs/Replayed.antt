@@ -16,6 +16,7 @@ use Rattle.sources.specs.declared.refusal.Ending.TheVariants as ending
 use Rattle.sources.specs.Refusals.{code_of}
 use Rattle.sources.specs.Checking.{IsWellFormedSource}
 use Rattle.sources.proofs.Apart.{same_core, same_tree}
+use Rattle.sources.specs.Files.{WritesText}
 use Rattle.state.specs.States.{State}
 use Rattle.semantics.specs.Run.{run, open_thread, IsRearrangement, IsUninterrupted}
 use Rattle.semantics.specs.Units.{written_order}
@@ -30,7 +31,6 @@ use Rattle.commands.specs.declared.command.Command.TheVariants.{Replay}
 use Rattle.commands.specs.Rows.{Row}
 use Rattle.commands.specs.Files.{IsAskedRow}
 use Rattle.commands.specs.Answers.{Belongs, too_large, ended}
-use Rattle.commands.specs.Said.{WritesAnswer}
 use Rattle.edge.specs.Calls.{Call, HasNoFault}
 use Rattle.commands.specs.ReplayedCalls.{IsOrderOf, WritesCalls, NamesDeep, ReplayedCalls}
 use Rattle.commands.proofs.Headlines.{within_both, none_some}
@@ -81,7 +81,7 @@ module _ (call : Call) where
       })
 
   -- the sentence, from what comes where nothing failed
-  pub replayed_calls_of : ((row : Row) (files : List (List ℕ)) → IsAskedRow call.words call.told row files → HasNoFault call row.names → (call.status ≡ 8) ⊎ WritesAnswer row files call.status call.written_before call.written_after)
+  pub replayed_calls_of : ((row : Row) (files : List (List ℕ)) → IsAskedRow call.words call.told row files → HasNoFault call row.names → (call.status ≡ 8) ⊎ WritesText (Belongs row files call.status) call.written_before call.written_after)
       → ReplayedCalls call
   replayed_calls_of complete = record {
     replays = λ source_name schedule_name file text said told_file told_text small short calm tree P source accepted s q schedule runs closed.
@@ -98,7 +98,7 @@ module _ (call : Call) where
           written_calls file text out done answer e wrote tree P s q source accepted schedule runs closed
 
       replays_by : (source_name schedule_name file text : List ℕ) → length file ≤ longest_source → length text ≤ longest_second_file → (tree : ProgramTree) (P : Program) → IsWellFormedSource file tree P → IsAccepted P → (s : List ℕ) (q : State) → IsSchedule text s → run P s ≡ Some q → open_thread P q ≡ None
-          → (call.status ≡ 8) ⊎ WritesAnswer (record { command = Replay; names = source_name ∷ schedule_name ∷ [] }) (file ∷ text ∷ []) call.status call.written_before call.written_after → (call.status ≡ 8) ⊎ (WritesCalls call P (table_of tree) s q ⊎ NamesDeep call P s q)
+          → (call.status ≡ 8) ⊎ WritesText (Belongs (record { command = Replay; names = source_name ∷ schedule_name ∷ [] }) (file ∷ text ∷ []) call.status) call.written_before call.written_after → (call.status ≡ 8) ⊎ (WritesCalls call P (table_of tree) s q ⊎ NamesDeep call P s q)
       replays_by source_name schedule_name file text small short tree P source accepted s q schedule runs closed (inl eight) = inl eight
       replays_by source_name schedule_name file text small short tree P source accepted s q schedule runs closed (inr w) =
           inr (replay_answer source_name schedule_name file text small short tree P source accepted s q schedule runs closed call.status w.text refl w.written w.belongs)

@@ -3,15 +3,16 @@ use Rattle.std.proofs.Common.{◌≡◌, ℕ, List, Option, refl, sym, subst, �
 use Rattle.edge.specs.Faults.{Rose}
 use Rattle.sources.specs.declared.refusal.Ending.{Ending}
 use Rattle.sources.specs.Refusals.{code_of}
+use Rattle.sources.specs.Files.{HasSameFaults, WritesText}
 use Rattle.commands.specs.declared.status.Status.{Status}
 use Rattle.commands.specs.declared.status.Status.TheVariants.{Ended, CannotRead, CannotWrite, NoMemory, Usage, TooLarge}
 use Rattle.commands.specs.Rows.{Row, IsRow, limits_of}
 use Rattle.commands.proofs.OneRow.{one_row}
 use Rattle.commands.specs.Files.{IsAskedRow, AreBounded}
-use Rattle.commands.specs.Reading.{AreTheirs, HasSameFaults}
+use Rattle.commands.specs.Reading.{AreTheirs}
 use Rattle.edge.specs.Said.{IsTroubleStatus, SaysText}
 use Rattle.commands.specs.Answers.{CommandAnswer, Belongs, too_large, ended, IsExactStatus}
-use Rattle.commands.specs.Said.{IsLineOfUnread, WritesUnread, WritesTooLarge, WritesAnswer, WritesAnswerToBytes, WritesFront, BelongsToBytes, WritesFrontToBytes}
+use Rattle.commands.specs.Said.{IsLineOfUnread, WritesUnread, WritesTooLarge, WritesAnswerToBytes, WritesFront, BelongsToBytes, WritesFrontToBytes}
 use Rattle.commands.specs.Commands.{exit_status}
 use Rattle.commands.specs.Outcomes.{IsCommandAnswer, IsOutcome}
 use Rattle.commands.proofs.Endings.{exact_answer, exact_yield, no_ending}
@@ -142,10 +143,10 @@ module _ (words : List (List ℕ)) (result : ℕ) (told : List ℕ → Option (L
         by NoMemory is = absurd is
         by Usage is = absurd is
 
-    pub answered : IsTroubleStatus result ⊎ WritesAnswer row files result old new
+    pub answered : IsTroubleStatus result ⊎ WritesText (Belongs row files result) old new
     answered = by d.said its
       where
-        by : SaysText result (exit_status d.status) d.text old new sink_before sink_now → (IsLineOfUnread row told before now d.text × (exit_status d.status ≡ 6)) ⊎ Belongs row files (exit_status d.status) d.text → IsTroubleStatus result ⊎ WritesAnswer row files result old new
+        by : SaysText result (exit_status d.status) d.text old new sink_before sink_now → (IsLineOfUnread row told before now d.text × (exit_status d.status ≡ 6)) ⊎ Belongs row files (exit_status d.status) d.text → IsTroubleStatus result ⊎ WritesText (Belongs row files result) old new
         by (inr s) a = inl (inr (inl s.0))
         by (inl s) (inl six) = inl (inl (s.0 ∙ six.1))
         by (inl s) (inr a) = inr (record { text = d.text; belongs = subst (λ n. Belongs row files n d.text) (sym s.0) a; written = s.1 })
@@ -153,7 +154,7 @@ module _ (words : List (List ℕ)) (result : ℕ) (told : List ℕ → Option (L
     pub exact : IsExactStatus row files result
     exact = by answered
       where
-        by : IsTroubleStatus result ⊎ WritesAnswer row files result old new → IsExactStatus row files result
+        by : IsTroubleStatus result ⊎ WritesText (Belongs row files result) old new → IsExactStatus row files result
         by (inl y) = exact_yield row files result y
         by (inr w) = exact_answer row files result w.text w.belongs
 
@@ -168,10 +169,10 @@ module _ (words : List (List ℕ)) (result : ℕ) (told : List ℕ → Option (L
         by (inl s) a = absurd (other_than_seven d.row told before now d.status d.text d.outcome (sym s.0 ∙ seven))
         by (inr s) a = record { status = exit_status d.status; text = d.text; belongs = belongs a; written = s.1 }
 
-    pub complete : ((name : List ℕ) → Contains row.names name → Rose (before name) (now name) → ⊥) → (Rose sink_before sink_now → ⊥) → (result ≡ 8) ⊎ WritesAnswer row files result old new
+    pub complete : ((name : List ℕ) → Contains row.names name → Rose (before name) (now name) → ⊥) → (Rose sink_before sink_now → ⊥) → (result ≡ 8) ⊎ WritesText (Belongs row files result) old new
     complete calm sink_calm = by d.said its
       where
-        by : SaysText result (exit_status d.status) d.text old new sink_before sink_now → (IsLineOfUnread row told before now d.text × (exit_status d.status ≡ 6)) ⊎ Belongs row files (exit_status d.status) d.text → (result ≡ 8) ⊎ WritesAnswer row files result old new
+        by : SaysText result (exit_status d.status) d.text old new sink_before sink_now → (IsLineOfUnread row told before now d.text × (exit_status d.status ≡ 6)) ⊎ Belongs row files (exit_status d.status) d.text → (result ≡ 8) ⊎ WritesText (Belongs row files result) old new
         by (inr s) a = absurd (sink_calm s.2)
         by (inl s) (inl six) = absurd (calm six.0.name (unread_named told before now (limits_of row.command) row.names six.0.name six.0.first) six.0.first.rose)
         by (inl s) (inr a) = inr (record { text = d.text; belongs = subst (λ n. Belongs row files n d.text) (sym s.0) a; written = s.1 })

@@ -2,6 +2,7 @@
 -- wasn't.
 use Rattle.std.specs.Prelude.{◌≡◌, ◌≢◌, ℕ, ◌<◌, ◌≤◌, List, [], ◌∷◌, Option, Some, IfSome, IsSome, length, slice_get}
 use Rattle.edge.specs.Faults.{Rose}
+use Rattle.sources.specs.Files.{HasSameFaults}
 use Rattle.commands.specs.Files.{AreBounded}
 
 -- bytes of each named file; of a file that is told they are what is told
@@ -15,10 +16,6 @@ AreTheirs told (name ∷ names) (file ∷ files) = IfSome (told name) (λ its. f
 abbrev pub AreWithinBefore : (List ℕ → Option (List ℕ)) → List ℕ → List (List ℕ) → ℕ → Type 0
 AreWithinBefore told limits names place =
     (k limit : ℕ) (name : List ℕ) → k < place → slice_get limits k ≡ Some limit → slice_get names k ≡ Some name → IfSome (told name) (λ file. length file ≤ limit)
-
--- no file's count of faults changed
-abbrev pub HasSameFaults : (before now : List ℕ → ℕ) → Type 0
-HasSameFaults before now = (name : List ℕ) → now name ≡ before name
 
 -- the files were read
 pub record AreRead (told : List ℕ → Option (List ℕ)) (before now : List ℕ → ℕ) (limits : List ℕ) (names files : List (List ℕ)) : Type 0 where

@@ -1,6 +1,7 @@
 -- A text that the program writes with a status.
 use Rattle.std.specs.Prelude.{◌≡◌, ℕ, List, Option, ◌⊎◌}
 use Rattle.std.specs.Io.KnownBytes.{Appends}
+use Rattle.sources.specs.Files.{WritesText}
 use Rattle.edge.specs.Pieces.{AppendsFront}
 use Rattle.edge.specs.Lines.{cannot_read_line, too_large_line}
 use Rattle.commands.specs.Rows.{Row, limits_of}
@@ -31,18 +32,12 @@ pub record WritesTooLarge (row : Row) (told : List ℕ → Option (List ℕ)) (b
   pub large : IsTooLarge row told before now line
   pub written : Appends old new line
 
--- the text that belongs to the row, its files and the status was written
-pub record WritesAnswer (row : Row) (files : List (List ℕ)) (status : ℕ) (old new : Option (List ℕ)) : Type 0 where
-  pub text : List ℕ
-  pub belongs : Belongs row files status text
-  pub written : Appends old new text
-
 -- the files have bytes, which are those that are told where the folder tells a file, and the text that belongs to the row, these bytes
 -- and the status was written
 pub record WritesAnswerToBytes (row : Row) (told : List ℕ → Option (List ℕ)) (status : ℕ) (old new : Option (List ℕ)) : Type 0 where
   pub files : List (List ℕ)
   pub theirs : AreTheirs told row.names files
-  pub answer : WritesAnswer row files status old new
+  pub answer : WritesText (Belongs row files status) old new
 
 -- a front was written of the text that belongs to some status, or of the line of a file that couldn't be read
 pub record WritesFront (row : Row) (files : List (List ℕ)) (told : List ℕ → Option (List ℕ)) (before now : List ℕ → ℕ) (old new : Option (List ℕ)) : Type 0 where

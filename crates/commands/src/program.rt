@@ -5,13 +5,13 @@ ghost use Rattle.std.specs.Io.KnownBytes.{Keeps};
 ghost use Rattle.edge.specs.Faults.{Rose};
 ghost use Rattle.sources.specs.Refusals.{IsRight};
 ghost use Rattle.sources.specs.declared.refusal.Ending.{Ending as EndingData};
+ghost use Rattle.sources.specs.Files.{HasSameFaults, WritesText};
 ghost use Rattle.commands.specs.Lines.{usage_line};
 ghost use Rattle.commands.specs.Rows.{Row, IsRow, IsNoRow, IsWithin, limits_of};
 ghost use Rattle.commands.specs.Files.{IsAskedRow, AreBounded};
 ghost use Rattle.edge.specs.Said.{IsTroubleStatus, SaysText};
-ghost use Rattle.commands.specs.Answers.{CommandAnswer, IsExactStatus};
-ghost use Rattle.commands.specs.Reading.{HasSameFaults};
-ghost use Rattle.commands.specs.Said.{WritesUnread, WritesTooLarge, WritesAnswer, WritesAnswerToBytes, WritesFront, WritesFrontToBytes};
+ghost use Rattle.commands.specs.Answers.{CommandAnswer, IsExactStatus, Belongs};
+ghost use Rattle.commands.specs.Said.{WritesUnread, WritesTooLarge, WritesAnswerToBytes, WritesFront, WritesFrontToBytes};
 ghost use Rattle.commands.specs.Commands.{row_of_words, exit_status};
 ghost use Rattle.edge.specs.Calls.{call_record};
 ghost use Rattle.commands.specs.Headline.{Headline};
@@ -158,14 +158,14 @@ pub fn run<F: Folder, K: Sink>(alloc: Global, words: &[String], folder: &mut F, 
     // The files are told: each status comes exactly where its fact holds, and the text is the one that belongs to it.
     ensures exact { (row : Row) (files : List (List ℕ)) → IsAskedRow (map string_bytes words.now) (F.told folder.old) row files → IsExactStatus row files result }
     ensures text { (row : Row) (files : List (List ℕ)) → IsAskedRow (map string_bytes words.now) (F.told folder.old) row files →
-        IsTroubleStatus result ⊎ WritesAnswer row files result (K.written sink.old) (K.written sink.new) }
+        IsTroubleStatus result ⊎ WritesText (Belongs row files result) (K.written sink.old) (K.written sink.new) }
     ensures front { (row : Row) (files : List (List ℕ)) → IsAskedRow (map string_bytes words.now) (F.told folder.old) row files → result ≡ 7 →
         WritesFront row files (F.told folder.old) (F.faults folder.old) (F.faults folder.new) (K.written sink.old) (K.written sink.new) }
 
     // No count rose or stands at its last value: the answer, or want of memory.
     ensures complete { (row : Row) (files : List (List ℕ)) → IsAskedRow (map string_bytes words.now) (F.told folder.old) row files →
         ((name : List ℕ) → Contains row.names name → Rose (F.faults folder.old name) (F.faults folder.new name) → ⊥) → (Rose (K.faults sink.old) (K.faults sink.new) → ⊥) →
-        (result ≡ 8) ⊎ WritesAnswer row files result (K.written sink.old) (K.written sink.new) }
+        (result ≡ 8) ⊎ WritesText (Belongs row files result) (K.written sink.old) (K.written sink.new) }
 
     // The sentence that the program is for, derived from these.
     ensures headline { Headline (call_record (map string_bytes words.now) (F.told folder.old) (F.faults folder.old) (F.faults folder.new)

@@ -1,10 +1,10 @@
 //! The top call over a folder and a sink that never fail.
 ghost use Rattle.std.specs.Prelude.{◌≡◌, ◌⊎◌, List, ℕ, Some, None, map, string_bytes};
+ghost use Rattle.sources.specs.Files.{WritesText};
 ghost use Rattle.edge.specs.InMemory.{bytes_or_none};
-ghost use Rattle.commands.specs.Answers.{IsExactStatus};
+ghost use Rattle.commands.specs.Answers.{IsExactStatus, Belongs};
 ghost use Rattle.commands.specs.Files.{IsAskedRow};
 ghost use Rattle.commands.specs.Rows.{Row, IsNoRow};
-ghost use Rattle.commands.specs.Said.{WritesAnswer};
 
 use crate::program::run;
 use edge::{NeverFailsFolder, NeverFailsSink};
@@ -29,7 +29,7 @@ pub fn run_unfailing(
     ensures exact { (row : Row) (files : List (List ℕ)) → IsAskedRow (map string_bytes words.now) (λ name. Some (bytes_or_none folder.old name)) row files →
         IsExactStatus row files result }
     ensures text { (row : Row) (files : List (List ℕ)) → IsAskedRow (map string_bytes words.now) (λ name. Some (bytes_or_none folder.old name)) row files →
-        (result ≡ 8) ⊎ WritesAnswer row files result None None }
+        (result ≡ 8) ⊎ WritesText (Belongs row files result) None None }
 {
     run(alloc, words, folder, sink)
 }
