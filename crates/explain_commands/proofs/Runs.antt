@@ -7,12 +7,12 @@ use Rattle.edge.specs.Faults.{Rose}
 use Rattle.edge.specs.Lines.{cannot_read_line, too_large_line}
 use Rattle.edge.specs.Said.{SaysText, IsTroubleStatus}
 use Rattle.sources.specs.Refusals.{code_of}
+use Rattle.sources.specs.Files.{HasSameFaults, IsUnread, IsOver, WritesText, WritesFrontOf}
 use Rattle.explain_commands.specs.declared.words.Order.{Order}
 use Rattle.explain_commands.specs.declared.words.Order.TheVariants.{Why, All}
 use Rattle.explain_commands.specs.Outcomes.{IsExplainOutcome, unread, over, read}
-use Rattle.explain_commands.specs.Reading.{HasSameFaults, IsUnread, IsOver}
 use Rattle.explain_commands.specs.Words.{AsksFor, all_word}
-use Rattle.explain_commands.specs.Written.{IsAskedFile, BelongsToFile, too_large, ended, IsExactStatusOfFile, WritesAnswer, WritesAnswerToFile, IsSomeText, some_unread, some_answer, WritesFront, IsSomeTextToBytes, unread_line, answer_to, WritesFrontToFile}
+use Rattle.explain_commands.specs.Written.{IsAskedFile, BelongsToFile, too_large, ended, IsExactStatusOfFile, WritesAnswerToFile, IsSomeText, some_unread, some_answer, IsSomeTextToBytes, unread_line, answer_to}
 use Rattle.explain_commands.proofs.Endings.{caused, low_code, exact_answer, exact_yield}
 
 -- words ask for one thing at most
@@ -60,7 +60,7 @@ module _ (told : List ℕ → Option (List ℕ)) (before now : List ℕ → ℕ)
   six _ _ (over is) e = absurd (omega (arith, e))
   six _ _ (read file ending text is answer) e = absurd (let low = low_code file ending (caused order name file ending text answer) in omega (arith, low, e))
 
-  ten : (status : ℕ) (text : List ℕ) → IsExplainOutcome order name told before now status text → status ≡ 10 → IsOver told before now name × (text ≡ too_large_line name)
+  ten : (status : ℕ) (text : List ℕ) → IsExplainOutcome order name told before now status text → status ≡ 10 → IsOver told before now longest_source name × (text ≡ too_large_line name)
   ten _ _ (unread is) e = absurd (omega (arith, e))
   ten _ _ (over is) e = (is, refl)
   ten _ _ (read file ending text is answer) e = absurd (let low = low_code file ending (caused order name file ending text answer) in omega (arith, low, e))
@@ -118,10 +118,10 @@ module _ (words : List (List ℕ)) (result : ℕ) (told : List ℕ → Option (L
       by (inl s) = let p = six told before now order name d.status d.text (its order name is) (sym s.0 ∙ e) in (p.0, subst (Appends old new) p.1 s.1)
 
   -- a file that is over its limit
-  pub over_limit : (order : Order) (name : List ℕ) → AsksFor words order name → result ≡ 10 → IsOver told before now name × Appends old new (too_large_line name)
+  pub over_limit : (order : Order) (name : List ℕ) → AsksFor words order name → result ≡ 10 → IsOver told before now longest_source name × Appends old new (too_large_line name)
   over_limit order name is e = by d.said
     where
-      by : SaysText result d.status d.text old new sink_before sink_now → IsOver told before now name × Appends old new (too_large_line name)
+      by : SaysText result d.status d.text old new sink_before sink_now → IsOver told before now longest_source name × Appends old new (too_large_line name)
       by (inr s) = absurd (omega (arith, s.0, e))
       by (inl s) = let p = ten told before now order name d.status d.text (its order name is) (sym s.0 ∙ e) in (p.0, subst (Appends old new) p.1 s.1)
 
@@ -148,22 +148,22 @@ module _ (words : List (List ℕ)) (result : ℕ) (told : List ℕ → Option (L
       })
 
   -- whatever is told, a front of the line of a file that can't be read, or of the answer to bytes that the file has
-  pub cut_short : (order : Order) (name : List ℕ) → AsksFor words order name → result ≡ 7 → WritesFrontToFile order name told before now old new
+  pub cut_short : (order : Order) (name : List ℕ) → AsksFor words order name → result ≡ 7 → WritesFrontOf (IsSomeTextToBytes order name told before now) old new
   cut_short order name is seven = by d.said
     where
-      by : SaysText result d.status d.text old new sink_before sink_now → WritesFrontToFile order name told before now old new
+      by : SaysText result d.status d.text old new sink_before sink_now → WritesFrontOf (IsSomeTextToBytes order name told before now) old new
       by (inl s) = absurd (not_seven told before now order name d.status d.text (its order name is) (sym s.0 ∙ seven))
-      by (inr s) = record { text = d.text; is = some_text told before now order name d.status d.text (its order name is); written = s.1 }
+      by (inr s) = record { text = d.text; belongs = some_text told before now order name d.status d.text (its order name is); written = s.1 }
 
   module _ (order : Order) (name file : List ℕ) (asked : IsAskedFile words told order name file) where
     found : (IsUnread told before now name × (d.status ≡ 6) × (d.text ≡ cannot_read_line name)) ⊎ BelongsToFile order name file d.status d.text
     found = to_told told before now order name file asked.is_told d.status d.text (its order name asked.is_row)
 
-    pub answered : IsTroubleStatus result ⊎ WritesAnswer order name file result old new
+    pub answered : IsTroubleStatus result ⊎ WritesText (BelongsToFile order name file result) old new
     answered = by d.said found
       where
         by : SaysText result d.status d.text old new sink_before sink_now → (IsUnread told before now name × (d.status ≡ 6) × (d.text ≡ cannot_read_line name)) ⊎ BelongsToFile order name file d.status d.text
-            → IsTroubleStatus result ⊎ WritesAnswer order name file result old new
+            → IsTroubleStatus result ⊎ WritesText (BelongsToFile order name file result) old new
         by (inr s) a = inl (inr (inl s.0))
         by (inl s) (inl gone) = inl (inl (s.0 ∙ gone.1))
         by (inl s) (inr a) = inr (record { text = d.text; belongs = subst (λ n. BelongsToFile order name file n d.text) (sym s.0) a; written = s.1 })
@@ -171,11 +171,11 @@ module _ (words : List (List ℕ)) (result : ℕ) (told : List ℕ → Option (L
     pub exact : IsExactStatusOfFile file result
     exact = by answered
       where
-        by : IsTroubleStatus result ⊎ WritesAnswer order name file result old new → IsExactStatusOfFile file result
+        by : IsTroubleStatus result ⊎ WritesText (BelongsToFile order name file result) old new → IsExactStatusOfFile file result
         by (inl y) = exact_yield file result y
         by (inr w) = exact_answer order name file result w.text w.belongs
 
-    pub front : result ≡ 7 → WritesFront order name file told before now old new
+    pub front : result ≡ 7 → WritesFrontOf (IsSomeText order name file told before now) old new
     front seven = by d.said found
       where
         some : (IsUnread told before now name × (d.status ≡ 6) × (d.text ≡ cannot_read_line name)) ⊎ BelongsToFile order name file d.status d.text → IsSomeText order name file told before now d.text
@@ -183,15 +183,15 @@ module _ (words : List (List ℕ)) (result : ℕ) (told : List ℕ → Option (L
         some (inr a) = some_answer d.status d.text a
 
         by : SaysText result d.status d.text old new sink_before sink_now → (IsUnread told before now name × (d.status ≡ 6) × (d.text ≡ cannot_read_line name)) ⊎ BelongsToFile order name file d.status d.text
-            → WritesFront order name file told before now old new
+            → WritesFrontOf (IsSomeText order name file told before now) old new
         by (inl s) a = absurd (not_seven told before now order name d.status d.text (its order name asked.is_row) (sym s.0 ∙ seven))
-        by (inr s) a = record { text = d.text; is = some a; written = s.1 }
+        by (inr s) a = record { text = d.text; belongs = some a; written = s.1 }
 
-    pub complete : (Rose (before name) (now name) → ⊥) → (Rose sink_before sink_now → ⊥) → (result ≡ 8) ⊎ WritesAnswer order name file result old new
+    pub complete : (Rose (before name) (now name) → ⊥) → (Rose sink_before sink_now → ⊥) → (result ≡ 8) ⊎ WritesText (BelongsToFile order name file result) old new
     complete calm sink_calm = by d.said found
       where
         by : SaysText result d.status d.text old new sink_before sink_now → (IsUnread told before now name × (d.status ≡ 6) × (d.text ≡ cannot_read_line name)) ⊎ BelongsToFile order name file d.status d.text
-            → (result ≡ 8) ⊎ WritesAnswer order name file result old new
+            → (result ≡ 8) ⊎ WritesText (BelongsToFile order name file result) old new
         by (inr s) a = absurd (sink_calm s.2)
         by (inl s) (inl gone) = absurd (calm gone.0.rose)
         by (inl s) (inr a) = inr (record { text = d.text; belongs = subst (λ n. BelongsToFile order name file n d.text) (sym s.0) a; written = s.1 })

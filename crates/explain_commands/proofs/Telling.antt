@@ -19,13 +19,14 @@ use Rattle.sources.specs.declared.refusal.Ending.TheVariants.{Done, Refused, Ina
 use Rattle.sources.specs.Checking.{IsWellFormedSource}
 use Rattle.sources.specs.Refusals.{code_of}
 use Rattle.sources.proofs.Apart.{same_core, same_tree, no_source_is_none}
+use Rattle.sources.specs.Files.{WritesText}
 use Rattle.syntax.specs.Trees.{ProgramTree}
 use Rattle.explain_commands.specs.declared.words.Order.TheVariants.{Why}
 use Rattle.explain_commands.specs.Answers.{ExplainAnswer, no_source, judged, IsJudgedProgram, pages_of}
 use Rattle.explain_commands.specs.Broken.{broken_methods, ending_for, IsProgramVerdict}
 use Rattle.explain_commands.specs.Explained.{AreTexts, none, more}
 use Rattle.explain_commands.specs.Sentence.{TellsBroken, ExplainsBroken}
-use Rattle.explain_commands.specs.Written.{IsAskedFile, BelongsToFile, too_large, ended, WritesAnswer}
+use Rattle.explain_commands.specs.Written.{IsAskedFile, BelongsToFile, too_large, ended}
 use Rattle.explain_commands.proofs.Breaking.{exactly_broken, nothing_explained}
 
 -- the status of how it ends where these methods break their bounds
@@ -98,7 +99,7 @@ module _ (call : Call) (name file : List ℕ) where
 
 -- the sentence
 pub sentence_of : (call : Call) → ((name file : List ℕ) → IsAskedFile call.words call.told Why name file → HasNoFault call (name ∷ [])
-    → (call.status ≡ 8) ⊎ WritesAnswer Why name file call.status call.written_before call.written_after) → ExplainsBroken call
+    → (call.status ≡ 8) ⊎ WritesText (BelongsToFile Why name file call.status) call.written_before call.written_after) → ExplainsBroken call
 sentence_of call complete name file words other told small calm tree P is = elim (complete name file (record { is_row = (words, other); is_told = told }) calm) [
   | inl memory ↦ inl memory
   | inr w ↦ inr (by_belongs call name file call.status w.text w.belongs refl w.written small tree P is)

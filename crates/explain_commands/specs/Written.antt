@@ -1,16 +1,14 @@
 -- What is written, and with which status.
 use Rattle.std.specs.Prelude.{◌≡◌, ℕ, ◌<◌, ◌≤◌, List, Option, Some, IfSome, length}
-use Rattle.std.specs.Io.KnownBytes.{Appends}
 use Rattle.lexer.specs.Limits.{longest_source}
-use Rattle.edge.specs.Pieces.{AppendsFront}
 use Rattle.edge.specs.Lines.{cannot_read_line, too_large_line}
 use Rattle.edge.specs.Said.{Exactly}
 use Rattle.sources.specs.declared.refusal.Ending.{Ending}
 use Rattle.sources.specs.Facts.{IsNotWellFormed, HasNoAssignment, IsAcceptedSource}
 use Rattle.sources.specs.Refusals.{code_of}
+use Rattle.sources.specs.Files.{IsUnread, WritesText}
 use Rattle.explain_commands.specs.declared.words.Order.{Order}
 use Rattle.explain_commands.specs.Answers.{ExplainAnswer}
-use Rattle.explain_commands.specs.Reading.{IsUnread}
 use Rattle.explain_commands.specs.Words.{AsksFor}
 
 -- the words ask for this of the file of this name, and the folder tells its bytes
@@ -31,28 +29,16 @@ pub record IsExactStatusOfFile (file : List ℕ) (result : ℕ) : Type 0 where
   pub inadmissible : Exactly result 2 ((length file ≤ longest_source) × HasNoAssignment file)
   pub accepted : Exactly result 0 ((length file ≤ longest_source) × IsAcceptedSource file)
 
--- the text that belongs to what is asked, the file and the status was written
-pub record WritesAnswer (order : Order) (name file : List ℕ) (status : ℕ) (old new : Option (List ℕ)) : Type 0 where
-  pub text : List ℕ
-  pub belongs : BelongsToFile order name file status text
-  pub written : Appends old new text
-
 -- the file has bytes, which are those that are told where the folder tells it, and the text that belongs to these and the status was written
 pub record WritesAnswerToFile (order : Order) (name : List ℕ) (told : List ℕ → Option (List ℕ)) (status : ℕ) (old new : Option (List ℕ)) : Type 0 where
   pub file : List ℕ
   pub its : IfSome (told name) (λ bytes. file ≡ bytes)
-  pub answer : WritesAnswer order name file status old new
+  pub answer : WritesText (BelongsToFile order name file status) old new
 
 -- the text that belongs to some status, or the line of a file that couldn't be read
 pub data IsSomeText (order : Order) (name file : List ℕ) (told : List ℕ → Option (List ℕ)) (before now : List ℕ → ℕ) : List ℕ → Type 0 where
   some_unread : IsUnread told before now name → IsSomeText order name file told before now (cannot_read_line name)
   some_answer : (status : ℕ) (text : List ℕ) → BelongsToFile order name file status text → IsSomeText order name file told before now text
-
--- a front of such a text was written
-pub record WritesFront (order : Order) (name file : List ℕ) (told : List ℕ → Option (List ℕ)) (before now : List ℕ → ℕ) (old new : Option (List ℕ)) : Type 0 where
-  pub text : List ℕ
-  pub is : IsSomeText order name file told before now text
-  pub written : AppendsFront old new text
 
 -- the line of a file that couldn't be read, or a text that belongs to some status and to bytes of the file, which are those that are told
 -- where the folder tells it
@@ -60,9 +46,3 @@ pub data IsSomeTextToBytes (order : Order) (name : List ℕ) (told : List ℕ �
   unread_line : IsUnread told before now name → IsSomeTextToBytes order name told before now (cannot_read_line name)
   answer_to : (file : List ℕ) (status : ℕ) (text : List ℕ) → IfSome (told name) (λ bytes. file ≡ bytes) → BelongsToFile order name file status text
       → IsSomeTextToBytes order name told before now text
-
--- a front of such a text was written
-pub record WritesFrontToFile (order : Order) (name : List ℕ) (told : List ℕ → Option (List ℕ)) (before now : List ℕ → ℕ) (old new : Option (List ℕ)) : Type 0 where
-  pub text : List ℕ
-  pub is : IsSomeTextToBytes order name told before now text
-  pub written : AppendsFront old new text

@@ -2,16 +2,17 @@
 
 ghost use Rattle.std.specs.Prelude.{◌≡◌, ◌⊎◌, ◌≤◌, ◌+◌, ℕ, List, map, IfOk, string_bytes};
 ghost use Rattle.std.specs.Io.KnownBytes.{Appends, Keeps};
+ghost use Rattle.lexer.specs.Limits.{longest_source};
+ghost use Rattle.sources.specs.Files.{HasSameFaults, IsUnread, IsOver, WritesText, WritesFrontOf};
 ghost use Rattle.edge.specs.Faults.{Rose};
 ghost use Rattle.edge.specs.Calls.{call_record};
 ghost use Rattle.edge.specs.Lines.{cannot_read_line, too_large_line};
 ghost use Rattle.edge.specs.Said.{SaysText, IsTroubleStatus};
 ghost use Rattle.explain_commands.specs.declared.words.Order.{Order as OrderData};
 ghost use Rattle.explain_commands.specs.Outcomes.{IsExplainOutcome};
-ghost use Rattle.explain_commands.specs.Reading.{HasSameFaults, IsUnread, IsOver};
 ghost use Rattle.explain_commands.specs.Sentence.{ExplainsBroken};
 ghost use Rattle.explain_commands.specs.Words.{AsksFor, AsksNothing, explain_usage_line};
-ghost use Rattle.explain_commands.specs.Written.{IsAskedFile, IsExactStatusOfFile, WritesAnswer, WritesAnswerToFile, WritesFront, WritesFrontToFile};
+ghost use Rattle.explain_commands.specs.Written.{IsAskedFile, IsExactStatusOfFile, WritesAnswerToFile, BelongsToFile, IsSomeText, IsSomeTextToBytes};
 
 use crate::answering::explain;
 use crate::lines::USAGE;
@@ -73,7 +74,7 @@ pub fn run<F: Folder, K: Sink>(alloc: Global, words: &[String], folder: &mut F, 
     ensures cannot_read { (order : OrderData) (name : List ℕ) → AsksFor (map string_bytes words.now) order name → result ≡ 6 →
         IsUnread (F.told folder.old) (F.faults folder.old) (F.faults folder.new) name × Appends (K.written sink.old) (K.written sink.new) (cannot_read_line name) }
     ensures too_large { (order : OrderData) (name : List ℕ) → AsksFor (map string_bytes words.now) order name → result ≡ 10 →
-        IsOver (F.told folder.old) (F.faults folder.old) (F.faults folder.new) name × Appends (K.written sink.old) (K.written sink.new) (too_large_line name) }
+        IsOver (F.told folder.old) (F.faults folder.old) (F.faults folder.new) longest_source name × Appends (K.written sink.old) (K.written sink.new) (too_large_line name) }
     ensures quiet { IsTroubleStatus result ⊎ HasSameFaults (F.faults folder.old) (F.faults folder.new) }
 
     // A sink that fails, want of memory.
@@ -86,7 +87,7 @@ pub fn run<F: Folder, K: Sink>(alloc: Global, words: &[String], folder: &mut F, 
 
     // Where the sink failed, a front of such a text was written, or of the line of a file that can't be read.
     ensures cut_short { (order : OrderData) (name : List ℕ) → AsksFor (map string_bytes words.now) order name → result ≡ 7 →
-        WritesFrontToFile order name (F.told folder.old) (F.faults folder.old) (F.faults folder.new) (K.written sink.old) (K.written sink.new) }
+        WritesFrontOf (IsSomeTextToBytes order name (F.told folder.old) (F.faults folder.old) (F.faults folder.new)) (K.written sink.old) (K.written sink.new) }
 
     // The file is opened once, so the answer speaks of one file.
     ensures opened { F.opened folder.new ≤ F.opened folder.old + 1 }
@@ -94,14 +95,14 @@ pub fn run<F: Folder, K: Sink>(alloc: Global, words: &[String], folder: &mut F, 
     // The file is told: each status comes exactly where its fact holds, and the text is the one that belongs to it.
     ensures exact { (order : OrderData) (name file : List ℕ) → IsAskedFile (map string_bytes words.now) (F.told folder.old) order name file → IsExactStatusOfFile file result }
     ensures text { (order : OrderData) (name file : List ℕ) → IsAskedFile (map string_bytes words.now) (F.told folder.old) order name file →
-        IsTroubleStatus result ⊎ WritesAnswer order name file result (K.written sink.old) (K.written sink.new) }
+        IsTroubleStatus result ⊎ WritesText (BelongsToFile order name file result) (K.written sink.old) (K.written sink.new) }
     ensures front { (order : OrderData) (name file : List ℕ) → IsAskedFile (map string_bytes words.now) (F.told folder.old) order name file → result ≡ 7 →
-        WritesFront order name file (F.told folder.old) (F.faults folder.old) (F.faults folder.new) (K.written sink.old) (K.written sink.new) }
+        WritesFrontOf (IsSomeText order name file (F.told folder.old) (F.faults folder.old) (F.faults folder.new)) (K.written sink.old) (K.written sink.new) }
 
     // No count rose or stands at its last value: the answer, or want of memory.
     ensures complete { (order : OrderData) (name file : List ℕ) → IsAskedFile (map string_bytes words.now) (F.told folder.old) order name file →
         (Rose (F.faults folder.old name) (F.faults folder.new name) → ⊥) → (Rose (K.faults sink.old) (K.faults sink.new) → ⊥) →
-        (result ≡ 8) ⊎ WritesAnswer order name file result (K.written sink.old) (K.written sink.new) }
+        (result ≡ 8) ⊎ WritesText (BelongsToFile order name file result) (K.written sink.old) (K.written sink.new) }
 
     // The sentence that the program is for, derived from these.
     ensures sentence { ExplainsBroken (call_record (map string_bytes words.now) (F.told folder.old) (F.faults folder.old) (F.faults folder.new)
