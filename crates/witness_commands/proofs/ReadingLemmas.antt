@@ -2,21 +2,22 @@
 use Rattle.std.proofs.Common.{◌≡◌, ◌≢◌, ◌<◌, ◌≤◌, ℕ, List, Option, Some, None, IfSome, IsSome, length, refl, sym, subst, ◌∙◌}
 use Rattle.lexer.specs.Limits.{longest_source}
 use Rattle.sources.specs.Limits.{longest_second_file}
+use Rattle.sources.specs.Files.{HasSameFaults, IsUnread, IsOver}
 use Rattle.edge.specs.declared.transfer.ReadEnd.{ReadEnd}
 use Rattle.edge.specs.declared.transfer.ReadEnd.TheVariants.{Fault, TooLarge, NoMemory}
 use Rattle.edge.specs.Faults.{Rose}
 use Rattle.witness_commands.specs.Outcomes.{IsWitnessOutcome, IsUnreadLine, unread, over}
-use Rattle.witness_commands.specs.Reading.{AreBytesOf, AreBothRead, IsSourceWithin, IsQuiet, IsUnread, IsOver, IsFirstOfTwoUnread, IsFirstOfTwoOver, source_unread, schedule_unread, source_over, schedule_over}
+use Rattle.witness_commands.specs.Reading.{AreBytesOf, AreBothRead, IsSourceWithin, IsFirstOfTwoUnread, IsFirstOfTwoOver, source_unread, schedule_unread, source_over, schedule_over}
 
 -- What the reading of a file of this name says at its end.
 pub record Ends (told : List ℕ → Option (List ℕ)) (before now : List ℕ → ℕ) (limit : ℕ) (name : List ℕ) (end : ReadEnd) : Type 0 where
   pub fault : end ≡ Fault → Rose (before name) (now name)
   pub others : (other : List ℕ) → other ≢ name → IsSome (told other) → now other ≡ before other
   pub large : end ≡ TooLarge → IfSome (told name) (λ file. limit < length file)
-  pub calm : end ≢ Fault → IsQuiet before now
+  pub calm : end ≢ Fault → HasSameFaults before now
 
 -- the same, where the counts were these before, and nothing failed in between
-pub earlier : (told after : List ℕ → Option (List ℕ)) (before mid now : List ℕ → ℕ) (limit : ℕ) (name : List ℕ) (end : ReadEnd) → ((other : List ℕ) → after other ≡ told other) → IsQuiet before mid
+pub earlier : (told after : List ℕ → Option (List ℕ)) (before mid now : List ℕ → ℕ) (limit : ℕ) (name : List ℕ) (end : ReadEnd) → ((other : List ℕ) → after other ≡ told other) → HasSameFaults before mid
     → Ends after mid now limit name end → Ends told before now limit name end
 earlier told after before mid now limit name end same calm e = record {
   fault = λ is. subst (λ n. Rose n (now name)) (calm name) (e.fault is);
@@ -52,7 +53,7 @@ told_within None bytes limit is within = tt
 told_within (Some file) bytes limit is within = subst (λ b. length b ≤ limit) is within
 
 -- both files were read
-pub both_read : (told after : List ℕ → Option (List ℕ)) (before mid now : List ℕ → ℕ) (source schedule file text : List ℕ) → ((other : List ℕ) → after other ≡ told other) → IsQuiet before mid → IsQuiet mid now
+pub both_read : (told after : List ℕ → Option (List ℕ)) (before mid now : List ℕ → ℕ) (source schedule file text : List ℕ) → ((other : List ℕ) → after other ≡ told other) → HasSameFaults before mid → HasSameFaults mid now
     → AreBytesOf told source file → AreBytesOf after schedule text → length file ≤ longest_source → length text ≤ longest_second_file → AreBothRead told before now source schedule file text
 both_read told after before mid now source schedule file text same first second one other small short = record {
   source_is = one;

@@ -4,13 +4,14 @@ use Rattle.std.proofs.lemmas.List.{length-replicate}
 use Rattle.std.specs.Io.KnownBytes.{Appends}
 use Rattle.lexer.specs.Limits.{longest_source}
 use Rattle.sources.specs.Limits.{longest_second_file}
+use Rattle.sources.specs.Files.{HasSameFaults, WritesText, WritesFrontOf}
 use Rattle.edge.specs.Faults.{Rose}
 use Rattle.edge.specs.Lines.{cannot_read_line, too_large_line}
 use Rattle.edge.specs.Said.{SaysText, IsTroubleStatus}
 use Rattle.witness_commands.specs.Outcomes.{IsWitnessOutcome, unread, over, read}
-use Rattle.witness_commands.specs.Reading.{AreBytesOf, IsQuiet, IsFirstOfTwoUnread, source_unread, schedule_unread, IsFirstOfTwoOver, source_over, schedule_over}
+use Rattle.witness_commands.specs.Reading.{AreBytesOf, IsFirstOfTwoUnread, source_unread, schedule_unread, IsFirstOfTwoOver, source_over, schedule_over}
 use Rattle.witness_commands.specs.Words.{NamesFiles}
-use Rattle.witness_commands.specs.Written.{IsAsked, BelongsToFiles, source_large, schedule_large, answered as belongs_answer, IsExact, WritesAnswer, WritesAnswerToFiles, IsSomeText, some_unread, some_answer, WritesFront}
+use Rattle.witness_commands.specs.Written.{IsAsked, BelongsToFiles, source_large, schedule_large, answered as belongs_answer, IsExact, WritesAnswerToFiles, IsSomeTextOfFiles, some_unread, some_answer}
 use Rattle.witness_commands.proofs.Endings.{exact_answer, exact_yield, not_between}
 
 -- words name two files at most
@@ -89,11 +90,11 @@ module _ (told : List ℕ → Option (List ℕ)) (before now : List ℕ → ℕ)
   none_between _ _ (over name is) low high = omega (arith, high)
   none_between _ _ (read {status = status} {out = out} file text is answer) low high = not_between file text status out answer (omega (arith, low), omega (arith, high))
 
-  over_quiet : (name : List ℕ) → IsFirstOfTwoOver told before now source schedule name → IsQuiet before now
+  over_quiet : (name : List ℕ) → IsFirstOfTwoOver told before now source schedule name → HasSameFaults before now
   over_quiet _ (source_over is) = is.quiet
   over_quiet _ (schedule_over small is) = is.quiet
 
-  calm_or_six : (status : ℕ) (out : List ℕ) → IsWitnessOutcome source schedule told before now status out → (status ≡ 6) ⊎ IsQuiet before now
+  calm_or_six : (status : ℕ) (out : List ℕ) → IsWitnessOutcome source schedule told before now status out → (status ≡ 6) ⊎ HasSameFaults before now
   calm_or_six _ _ (unread name is) = inl refl
   calm_or_six _ _ (over name is) = inr (over_quiet name is)
   calm_or_six _ _ (read {status = status} {out = out} file text is answer) = inr is.quiet
@@ -193,10 +194,10 @@ module _ (words : List (List ℕ)) (result : ℕ) (told : List ℕ → Option (L
       by (inl s) = let p = ten told before now source schedule d.status d.out (its source schedule is) (sym s.0 ∙ e) in (p.0, p.1, subst (Appends old new) p.2 s.1)
 
   -- a fault of a file is answered by the line of a file that can't be read
-  pub quiet : IsTroubleStatus result ⊎ IsQuiet before now
+  pub quiet : IsTroubleStatus result ⊎ HasSameFaults before now
   quiet = by d.said (calm_or_six told before now d.source d.schedule d.status d.out d.outcome)
     where
-      by : Said → (d.status ≡ 6) ⊎ IsQuiet before now → IsTroubleStatus result ⊎ IsQuiet before now
+      by : Said → (d.status ≡ 6) ⊎ HasSameFaults before now → IsTroubleStatus result ⊎ HasSameFaults before now
       by (inr s) a = inl (inr (inl s.0))
       by (inl s) (inl e) = inl (inl (s.0 ∙ e))
       by (inl s) (inr calm) = inr calm
@@ -213,7 +214,7 @@ module _ (words : List (List ℕ)) (result : ℕ) (told : List ℕ → Option (L
         text = b.text;
         source_is = b.source_is;
         schedule_is = b.schedule_is;
-        answer = record { out = d.out; belongs = subst (λ n. BelongsToFiles source schedule b.file b.text n d.out) (sym s.0) b.belongs; written = s.1 };
+        answer = record { text = d.out; belongs = subst (λ n. BelongsToFiles source schedule b.file b.text n d.out) (sym s.0) b.belongs; written = s.1 };
       })
 
   module _ (source schedule file text : List ℕ) (asked : IsAsked words told source schedule file text) where
@@ -226,13 +227,13 @@ module _ (words : List (List ℕ)) (result : ℕ) (told : List ℕ → Option (L
     found : Gone ⊎ Belonging
     found = to_told told before now source schedule file text asked.source_told asked.schedule_told d.status d.out (its source schedule asked.is_row)
 
-    writes : result ≡ d.status → Appends old new d.out → Belonging → WritesAnswer source schedule file text result old new
-    writes is written a = record { out = d.out; belongs = subst (λ n. BelongsToFiles source schedule file text n d.out) (sym is) a; written = written }
+    writes : result ≡ d.status → Appends old new d.out → Belonging → WritesText (BelongsToFiles source schedule file text result) old new
+    writes is written a = record { text = d.out; belongs = subst (λ n. BelongsToFiles source schedule file text n d.out) (sym is) a; written = written }
 
-    pub answered : IsTroubleStatus result ⊎ WritesAnswer source schedule file text result old new
+    pub answered : IsTroubleStatus result ⊎ WritesText (BelongsToFiles source schedule file text result) old new
     answered = by d.said found
       where
-        by : Said → Gone ⊎ Belonging → IsTroubleStatus result ⊎ WritesAnswer source schedule file text result old new
+        by : Said → Gone ⊎ Belonging → IsTroubleStatus result ⊎ WritesText (BelongsToFiles source schedule file text result) old new
         by (inr s) a = inl (inr (inl s.0))
         by (inl s) (inl gone) = inl (inl (s.0 ∙ gone.2))
         by (inl s) (inr a) = inr (writes s.0 s.1 a)
@@ -240,30 +241,30 @@ module _ (words : List (List ℕ)) (result : ℕ) (told : List ℕ → Option (L
     pub exact : IsExact file text result
     exact = by answered
       where
-        by : IsTroubleStatus result ⊎ WritesAnswer source schedule file text result old new → IsExact file text result
+        by : IsTroubleStatus result ⊎ WritesText (BelongsToFiles source schedule file text result) old new → IsExact file text result
         by (inl y) = exact_yield file text result y
-        by (inr w) = exact_answer source schedule file text result w.out w.belongs
+        by (inr w) = exact_answer source schedule file text result w.text w.belongs
 
-    pub front : result ≡ 7 → WritesFront source schedule file text told before now old new
+    pub front : result ≡ 7 → WritesFrontOf (IsSomeTextOfFiles source schedule file text told before now) old new
     front seven = by d.said found
       where
-        some : Gone ⊎ Belonging → IsSomeText source schedule file text told before now d.out
-        some (inl gone) = subst (IsSomeText source schedule file text told before now) (sym gone.3) (some_unread gone.0 gone.1)
+        some : Gone ⊎ Belonging → IsSomeTextOfFiles source schedule file text told before now d.out
+        some (inl gone) = subst (IsSomeTextOfFiles source schedule file text told before now) (sym gone.3) (some_unread gone.0 gone.1)
         some (inr a) = some_answer d.status d.out a
 
-        by : Said → Gone ⊎ Belonging → WritesFront source schedule file text told before now old new
+        by : Said → Gone ⊎ Belonging → WritesFrontOf (IsSomeTextOfFiles source schedule file text told before now) old new
         by (inl s) a = absurd (not_seven told before now source schedule d.status d.out (its source schedule asked.is_row) (sym s.0 ∙ seven))
-        by (inr s) a = record { out = d.out; is = some a; written = s.1 }
+        by (inr s) a = record { text = d.out; belongs = some a; written = s.1 }
 
     unread_rose : (name : List ℕ) → IsFirstOfTwoUnread told before now source schedule name → (Rose (before source) (now source) → ⊥) → (Rose (before schedule) (now schedule) → ⊥) → ⊥
     unread_rose _ (source_unread is) one other = one is.rose
     unread_rose _ (schedule_unread small is) one other = other is.rose
 
     pub complete : (Rose (before source) (now source) → ⊥) → (Rose (before schedule) (now schedule) → ⊥) → (Rose sink_before sink_now → ⊥)
-        → (result ≡ 8) ⊎ WritesAnswer source schedule file text result old new
+        → (result ≡ 8) ⊎ WritesText (BelongsToFiles source schedule file text result) old new
     complete one other sink_calm = by d.said found
       where
-        by : Said → Gone ⊎ Belonging → (result ≡ 8) ⊎ WritesAnswer source schedule file text result old new
+        by : Said → Gone ⊎ Belonging → (result ≡ 8) ⊎ WritesText (BelongsToFiles source schedule file text result) old new
         by (inr s) a = absurd (sink_calm s.2)
         by (inl s) (inl gone) = absurd (unread_rose gone.0 gone.1 one other)
         by (inl s) (inr a) = inr (writes s.0 s.1 a)

@@ -22,10 +22,11 @@ use Rattle.sources.specs.declared.checking.Source.{Source}
 use Rattle.sources.specs.declared.refusal.Ending.{Ending}
 use Rattle.sources.specs.Checking.{IsSourceOf, NoSource}
 use Rattle.sources.proofs.Verdicts.{well_formed_source}
+use Rattle.sources.specs.Files.{WritesText}
 use Rattle.syntax.specs.Trees.{ProgramTree}
 use Rattle.witness_commands.specs.Answers.{most_states, IsSaid, RefusesInput, no_source, no_schedule, no_end, IsToldOfSchedule, kept, broken, undecided, WitnessAnswer, refused, told}
 use Rattle.witness_commands.specs.Sentence.{ShowsBroken}
-use Rattle.witness_commands.specs.Written.{IsAsked, BelongsToFiles, source_large, schedule_large, answered, WritesAnswer}
+use Rattle.witness_commands.specs.Written.{IsAsked, BelongsToFiles, source_large, schedule_large, answered}
 use Rattle.witness_commands.proofs.Endings.{witness_of, refuses_other}
 
 pub no_source_refuses : (file text : List ℕ) (ended : Ending) (line : List ℕ) → NoSource file ended line → RefusesInput file text ended line
@@ -85,10 +86,10 @@ not_two : (status : ℕ) → IsTroubleStatus status → status ≡ 2 → ⊥
 not_two status y two = let r = yield_range status y in omega (arith, r.0, two)
 
 pub sentence_at : (words : List (List ℕ)) (known : List ℕ → Option (List ℕ)) (status : ℕ) (old new : Option (List ℕ))
-    → ((source schedule file text : List ℕ) → IsAsked words known source schedule file text → IsTroubleStatus status ⊎ WritesAnswer source schedule file text status old new)
+    → ((source schedule file text : List ℕ) → IsAsked words known source schedule file text → IsTroubleStatus status ⊎ WritesText (BelongsToFiles source schedule file text status) old new)
     → (source schedule file text : List ℕ) → words ≡ source ∷ schedule ∷ [] → known source ≡ Some file → known schedule ≡ Some text → length file ≤ longest_source → length text ≤ longest_second_file → status ≡ 2 → ShowsBroken file text
 sentence_at words known status old new answers source schedule file text are source_told schedule_told small short two =
     elim (answers source schedule file text (record { is_row = are; source_told = source_told; schedule_told = schedule_told })) [
       | inl y ↦ absurd (not_two status y two)
-      | inr w ↦ shows source schedule file text status w.out w.belongs two
+      | inr w ↦ shows source schedule file text status w.text w.belongs two
     ]

@@ -1,12 +1,11 @@
 -- What is written, and with which status.
 use Rattle.std.specs.Prelude.{◌≡◌, ℕ, ◌<◌, ◌≤◌, List, Option, Some, length, ◌⊎◌}
-use Rattle.std.specs.Io.KnownBytes.{Appends}
 use Rattle.lexer.specs.Limits.{longest_source}
 use Rattle.sources.specs.Limits.{longest_second_file}
-use Rattle.edge.specs.Pieces.{AppendsFront}
 use Rattle.edge.specs.Lines.{cannot_read_line, too_large_line}
 use Rattle.edge.specs.Said.{Exactly, IsTroubleStatus}
 use Rattle.sources.specs.Facts.{IsNotWellFormed}
+use Rattle.sources.specs.Files.{WritesText}
 use Rattle.semantics.specs.Run.{Runs}
 use Rattle.schedule_commands.specs.Schedules.{HasInput, IsWellFormedText, IsNoSchedule, LeavesCallOpen, EndsOutside}
 use Rattle.witness_commands.specs.Answers.{WitnessAnswer, IsKeptEnd, IsWitnessOf}
@@ -45,12 +44,6 @@ pub record IsExact (file text : List ℕ) (result : ℕ) : Type 0 where
   pub broken : Decides result 2 (AreBothWithin file text × HasInput file text IsWitnessOf)
   pub undecided : result ≡ 16 → AreBothWithin file text × HasInput file text EndsOutside
 
--- the text that belongs to the files and the status was written
-pub record WritesAnswer (source schedule file text : List ℕ) (status : ℕ) (old new : Option (List ℕ)) : Type 0 where
-  pub out : List ℕ
-  pub belongs : BelongsToFiles source schedule file text status out
-  pub written : Appends old new out
-
 -- the files have bytes, which are those that are told where the folder tells them, and the text that belongs to these and the status
 -- was written
 pub record WritesAnswerToFiles (source schedule : List ℕ) (told : List ℕ → Option (List ℕ)) (status : ℕ) (old new : Option (List ℕ)) : Type 0 where
@@ -58,15 +51,9 @@ pub record WritesAnswerToFiles (source schedule : List ℕ) (told : List ℕ →
   pub text : List ℕ
   pub source_is : AreBytesOf told source file
   pub schedule_is : AreBytesOf told schedule text
-  pub answer : WritesAnswer source schedule file text status old new
+  pub answer : WritesText (BelongsToFiles source schedule file text status) old new
 
 -- the text that belongs to some status, or the line of a file that couldn't be read
-pub data IsSomeText (source schedule file text : List ℕ) (told : List ℕ → Option (List ℕ)) (before now : List ℕ → ℕ) : List ℕ → Type 0 where
-  some_unread : (name : List ℕ) → IsFirstOfTwoUnread told before now source schedule name → IsSomeText source schedule file text told before now (cannot_read_line name)
-  some_answer : (status : ℕ) (out : List ℕ) → BelongsToFiles source schedule file text status out → IsSomeText source schedule file text told before now out
-
--- a front of such a text was written
-pub record WritesFront (source schedule file text : List ℕ) (told : List ℕ → Option (List ℕ)) (before now : List ℕ → ℕ) (old new : Option (List ℕ)) : Type 0 where
-  pub out : List ℕ
-  pub is : IsSomeText source schedule file text told before now out
-  pub written : AppendsFront old new out
+pub data IsSomeTextOfFiles (source schedule file text : List ℕ) (told : List ℕ → Option (List ℕ)) (before now : List ℕ → ℕ) : List ℕ → Type 0 where
+  some_unread : (name : List ℕ) → IsFirstOfTwoUnread told before now source schedule name → IsSomeTextOfFiles source schedule file text told before now (cannot_read_line name)
+  some_answer : (status : ℕ) (out : List ℕ) → BelongsToFiles source schedule file text status out → IsSomeTextOfFiles source schedule file text told before now out

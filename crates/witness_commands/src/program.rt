@@ -2,16 +2,17 @@
 
 ghost use Rattle.std.specs.Prelude.{◌≡◌, ◌⊎◌, ℕ, List, map, IfOk, string_bytes};
 ghost use Rattle.std.specs.Io.KnownBytes.{Appends, Keeps};
+ghost use Rattle.sources.specs.Files.{HasSameFaults, WritesText, WritesFrontOf};
 ghost use Rattle.edge.specs.Faults.{Rose};
 ghost use Rattle.edge.specs.Calls.{call_record};
 ghost use Rattle.edge.specs.Lines.{cannot_read_line, too_large_line};
 ghost use Rattle.edge.specs.Said.{SaysText, IsTroubleStatus};
 ghost use Rattle.witness_commands.specs.Answers.{WitnessAnswer};
 ghost use Rattle.witness_commands.specs.Outcomes.{IsWitnessOutcome, IsUnreadLine};
-ghost use Rattle.witness_commands.specs.Reading.{AreBothWithin, IsFirstOfTwoOver, IsFirstOfTwoUnread, IsQuiet};
+ghost use Rattle.witness_commands.specs.Reading.{AreBothWithin, IsFirstOfTwoOver, IsFirstOfTwoUnread};
 ghost use Rattle.witness_commands.specs.Sentence.{Witnesses};
 ghost use Rattle.witness_commands.specs.Words.{NamesFiles, NamesNoFiles, witness_usage_line};
-ghost use Rattle.witness_commands.specs.Written.{IsAsked, IsExact, WritesAnswer, WritesAnswerToFiles, WritesFront};
+ghost use Rattle.witness_commands.specs.Written.{IsAsked, IsExact, WritesAnswerToFiles, BelongsToFiles, IsSomeTextOfFiles};
 
 use crate::answering::judge_files;
 use crate::lines::USAGE;
@@ -98,7 +99,7 @@ pub fn run<F: Folder, K: Sink>(alloc: Global, words: &[String], folder: &mut F, 
         (name : List ℕ) × IsFirstOfTwoUnread (F.told folder.old) (F.faults folder.old) (F.faults folder.new) source schedule name × Appends (K.written sink.old) (K.written sink.new) (cannot_read_line name) }
     ensures too_large { (source schedule : List ℕ) → NamesFiles (map string_bytes words.now) source schedule → result ≡ 10 →
         (name : List ℕ) × IsFirstOfTwoOver (F.told folder.old) (F.faults folder.old) (F.faults folder.new) source schedule name × Appends (K.written sink.old) (K.written sink.new) (too_large_line name) }
-    ensures quiet { IsTroubleStatus result ⊎ IsQuiet (F.faults folder.old) (F.faults folder.new) }
+    ensures quiet { IsTroubleStatus result ⊎ HasSameFaults (F.faults folder.old) (F.faults folder.new) }
 
     // A sink that fails, want of memory.
     ensures cannot_write { result ≡ 7 → Rose (K.faults sink.old) (K.faults sink.new) }
@@ -111,14 +112,14 @@ pub fn run<F: Folder, K: Sink>(alloc: Global, words: &[String], folder: &mut F, 
     // The files are told: each status comes where its fact holds, and the text is the one that belongs to it.
     ensures exact { (source schedule file text : List ℕ) → IsAsked (map string_bytes words.now) (F.told folder.old) source schedule file text → IsExact file text result }
     ensures text { (source schedule file text : List ℕ) → IsAsked (map string_bytes words.now) (F.told folder.old) source schedule file text →
-        IsTroubleStatus result ⊎ WritesAnswer source schedule file text result (K.written sink.old) (K.written sink.new) }
+        IsTroubleStatus result ⊎ WritesText (BelongsToFiles source schedule file text result) (K.written sink.old) (K.written sink.new) }
     ensures front { (source schedule file text : List ℕ) → IsAsked (map string_bytes words.now) (F.told folder.old) source schedule file text → result ≡ 7 →
-        WritesFront source schedule file text (F.told folder.old) (F.faults folder.old) (F.faults folder.new) (K.written sink.old) (K.written sink.new) }
+        WritesFrontOf (IsSomeTextOfFiles source schedule file text (F.told folder.old) (F.faults folder.old) (F.faults folder.new)) (K.written sink.old) (K.written sink.new) }
 
     // No count rose or stands at its last value: the answer, or want of memory.
     ensures complete { (source schedule file text : List ℕ) → IsAsked (map string_bytes words.now) (F.told folder.old) source schedule file text →
         (Rose (F.faults folder.old source) (F.faults folder.new source) → ⊥) → (Rose (F.faults folder.old schedule) (F.faults folder.new schedule) → ⊥) →
-        (Rose (K.faults sink.old) (K.faults sink.new) → ⊥) → (result ≡ 8) ⊎ WritesAnswer source schedule file text result (K.written sink.old) (K.written sink.new) }
+        (Rose (K.faults sink.old) (K.faults sink.new) → ⊥) → (result ≡ 8) ⊎ WritesText (BelongsToFiles source schedule file text result) (K.written sink.old) (K.written sink.new) }
 
     // The sentence that the program is for, derived from these.
     ensures sentence { Witnesses (call_record (map string_bytes words.now) (F.told folder.old) (F.faults folder.old) (F.faults folder.new)
