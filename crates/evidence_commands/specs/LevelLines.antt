@@ -1,13 +1,10 @@
 -- The lines of `levels`.
-use Rattle.std.specs.Prelude.{ℕ, List, [], ◌∷◌, ◌++◌, codes, decimal, slice_get, unwrap_or}
+use Rattle.std.specs.Prelude.{ℕ, List, [], ◌∷◌, ◌++◌, codes, decimal}
 use Rattle.classes.specs.Table.{TableData}
 use Rattle.level_check.specs.declared.reader.LevelsFault.{LevelsFault}
 use Rattle.level_check.specs.declared.reader.LevelsFault.TheVariants as faults
+use Rattle.report.specs.States.{class_text}
 use Rattle.report.specs.Verdicts.{title_text}
-
--- the name of a class, nothing for one that the table hasn't
-abbrev pub class_text : TableData → ℕ → List ℕ
-class_text t class = unwrap_or (slice_get t.names class) []
 
 -- what is written where the program is ordered
 abbrev pub ordered_line : List ℕ

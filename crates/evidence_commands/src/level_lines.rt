@@ -2,7 +2,8 @@
 
 ghost use Rattle.std.specs.Prelude.{◌≡◌, ◌≢◌, [], option_map, string_bytes, unwrap_or, IfOk};
 ghost use Rattle.classes.specs.Views.{table_data};
-ghost use Rattle.evidence_commands.specs.LevelLines.{class_text, refused_at_line, refused_class_line, levels_fault_line, takes_line};
+ghost use Rattle.report.specs.States.{class_text};
+ghost use Rattle.evidence_commands.specs.LevelLines.{refused_at_line, refused_class_line, levels_fault_line, takes_line};
 
 use base::write_number;
 use classes::ClassTable;
