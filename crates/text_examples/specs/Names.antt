@@ -1,9 +1,8 @@
 -- A table of names, an address, and a call of the program.
-use Rattle.std.specs.Prelude.{ℕ, true, false, List, [], ◌∷◌, Some, None, codes}
+use Rattle.std.specs.Prelude.{true, false, [], ◌∷◌, Some, None, codes}
 use Rattle.classes.specs.Table.{TableData}
 use Rattle.core_program.specs.Core.{Program}
 use Rattle.core_program.specs.declared.types.CoreType.TheVariants.{Class, Int}
-use Rattle.paths.specs.Paths.{PathData}
 use Rattle.state.specs.declared.value.Address.{Address}
 use Rattle.edge.specs.Calls.{Call, call_record}
 
@@ -27,10 +26,6 @@ program = record {
   main_class = 1;
   main = 1;
 }
-
--- the path of a slot and the fields behind it
-abbrev pub path : ℕ → List ℕ → PathData
-path root fields = record { root = root; fields = fields }
 
 -- the third object of the second thread
 abbrev pub third : Address

@@ -1,6 +1,6 @@
 -- A schedule, the book of a small source, a certificate, and levels: as texts, and as what they write.
 use Rattle.std.specs.Prelude.{ℕ, List, [], ◌∷◌, codes}
-use Rattle.paths.specs.Paths.{PathData}
+use Rattle.core_examples.specs.Fields.{path}
 use Rattle.algebra.specs.declared.basic.Basic.TheVariants.{Const, Mover, Atomic, Cmpd, Error}
 use Rattle.conditions.specs.Conditions.{Cond, LeafC, TestC}
 use Rattle.books.specs.declared.word.Word.TheVariants as w
@@ -11,10 +11,6 @@ use Rattle.refutation.specs.Lines.{LineData}
 -- two steps of the first thread, a comment, and one of the second
 abbrev pub small_text : List ℕ
 small_text = codes "0*2 # 7\n1\n"
-
--- the path of a slot and the fields behind it
-abbrev pub path : ℕ → List ℕ → PathData
-path root fields = record { root = root; fields = fields }
 
 -- the trees of the book of `class Main { int v guarded_by this; atomic void main() { synchronized (this) { this.v = 7; } } }`
 abbrev pub mover_or_atomic : Cond

@@ -18,8 +18,8 @@ abbrev pub inc_call : Stmt
 inc_call = DoS (CallE ThisE 0 no_exprs) false
 
 -- this program, which is refused: `twice` is annotated and calls `inc` two times without holding the lock
-abbrev pub twice : Program
-twice = record counter {
+abbrev pub twice_program : Program
+twice_program = record counter {
   classes = record (plain_class (0 ∷ []) [] None 0) { targets = (0, 0) ∷ (1, 1) ∷ [] } ∷ plain_class [] [] None 2 ∷ [];
   methods = plain_method 0 48 true inc_body ∷ plain_method 0 126 true (BlockS (and_stmt inc_call (and_stmt inc_call no_stmts))) ∷ plain_method 1 190 false EmptyS ∷ [];
   main_class = 1;

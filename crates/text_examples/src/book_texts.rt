@@ -10,7 +10,8 @@ ghost use Rattle.books.specs.Texts.{node_text, method_line_text, method_lines_te
 ghost use Rattle.books.specs.Reading.{number_digits, number_at, path_at, leaf_at, tree_at, canonical_at, word_at_front, node_at, line_at, count_at, nothing_behind, book_at};
 ghost use Rattle.books.specs.Combine.{begins, expect, at_most, several};
 ghost use Rattle.books.specs.Faults.{first_book_fault};
-ghost use Rattle.text_examples.specs.Texts.{path, mover_or_atomic, two_tests, put_node, body_node, locked_book, locked_text};
+ghost use Rattle.core_examples.specs.Fields.{path};
+ghost use Rattle.text_examples.specs.Texts.{mover_or_atomic, two_tests, put_node, body_node, locked_book, locked_text};
 
 /// A book is its count of trees, the trees, a derivation for each method, and `end`.
 pub fn how_books_are_written()

@@ -4,7 +4,8 @@ ghost use Rattle.algebra.specs.declared.basic.Basic.TheVariants.{Mover, Atomic};
 ghost use Rattle.books.specs.declared.stop.Kind.TheVariants.{Form};
 ghost use Rattle.refutation.specs.Texts.{held_text, certificate_line_text, blame_text};
 ghost use Rattle.refutation.specs.Reading.{later_path, held_most, held_at, line_at, count_at, blame_at, first_certificate_fault};
-ghost use Rattle.text_examples.specs.Texts.{path, three_lines, three_text};
+ghost use Rattle.core_examples.specs.Fields.{path};
+ghost use Rattle.text_examples.specs.Texts.{three_lines, three_text};
 
 /// The count of the lines, the lines, and `end`.
 pub fn how_certificates_are_written()

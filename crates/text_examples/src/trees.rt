@@ -5,7 +5,8 @@ ghost use Rattle.algebra.specs.HeldPaths.{has_path};
 ghost use Rattle.conditions.specs.Conditions.{LeafC, TestC, value_of, cond_eq};
 ghost use Rattle.conditions.specs.Texts.{path_text, text_of};
 ghost use Rattle.books.specs.Books.{tests_high, is_canonical, most_nesting};
-ghost use Rattle.text_examples.specs.Texts.{path, mover_or_atomic, mover_or_error, two_tests};
+ghost use Rattle.core_examples.specs.Fields.{path};
+ghost use Rattle.text_examples.specs.Texts.{mover_or_atomic, mover_or_error, two_tests};
 
 /// A test is its first branch where the path is held, else the second one.
 pub fn what_trees_are_worth()

@@ -3,7 +3,8 @@ ghost use Rattle.std.specs.Prelude.{◌≡◌, [], ◌∷◌, map, codes};
 ghost use Rattle.algebra.specs.declared.basic.Basic.TheVariants.{Const, Mover, Atomic, Cmpd, Error};
 ghost use Rattle.conditions.specs.Conditions.{LeafC, TestC};
 ghost use Rattle.report.specs.Verdicts.{title_text, slot_text, field_text, fields_text, method_path_text, condition_text, atomicity_line, broken_line};
-ghost use Rattle.text_examples.specs.Names.{names, path};
+ghost use Rattle.core_examples.specs.Fields.{path};
+ghost use Rattle.text_examples.specs.Names.{names};
 
 /// Methods, slots, fields and paths by their names. What the table hasn't is written as nothing.
 pub fn how_names_are_written()
