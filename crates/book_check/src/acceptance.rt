@@ -76,7 +76,7 @@ fn judged_lines<L: Lines>(
     ensures work { IfErr result (λ fault. fault ≡ Wrong.Work → most_book_work < book_work (judge_program judge.now) (record { table = judge_table judge.now; lines = L.lines from })) }
 {
     let left = Cell::new(MOST_WORK);
-    let fault = match lines(alloc, Work::Bounded(&left), judge, over, from) {
+    let fault = match lines(alloc, Work::Bounded(&left), &*judge, over, from) {
         Ok(()) => return Ok(()),
         Err(fault) => fault,
     };
@@ -84,7 +84,7 @@ fn judged_lines<L: Lines>(
         return Err(fault);
     }
     if is_little(judge.program, judge.table, from) {
-        return lines(alloc, Work::Unbounded, judge, over, from);
+        return lines(alloc, Work::Unbounded, &*judge, over, from);
     }
     Err(fault)
 }

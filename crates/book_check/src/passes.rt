@@ -106,10 +106,10 @@ pub(crate) fn shapes<L: Lines>(
 }
 
 /// The second pass, within this work: method by method the tree, the steps, the overriding methods' trees and the bound of its line.
-pub(crate) fn lines<L: Lines>(
+pub(crate) fn lines<'a, L: Lines>(
     alloc: Global,
-    work: Work<'_>,
-    judge: &Judge<'_>,
+    work: Work<'a>,
+    judge: &'a Judge<'a>,
     over: &OverridingMethods,
     from: L,
 ) -> Result<(), Wrong>

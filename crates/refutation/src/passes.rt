@@ -64,12 +64,12 @@ fn pass(
     ensures passed { IfOk result (λ broken. let P = program_of judged.now.program.now in let rel = rel_of judged.now.sets.now in
         pass P rel (cells_of P rel) said.old.lines.items ≡ record { all = said.new.lines.items; broken = broken }) }
 {
-    let asking = Asking { judged, callers };
     let methods = judged.program.methods();
     let mut place = waits.next(0);
     while place < methods.len() {
         let id = MethodId(place as u32);
         let method = &methods[place];
+        let asking = Asking { judged, callers };
         if ask_noting(alloc, &asking, said, waits, id, method)? {
             return Ok(true);
         }
