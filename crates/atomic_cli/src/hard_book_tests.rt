@@ -164,8 +164,7 @@ fn many_nodes_with_many_paths_are_judged(rt: HostRuntime) -> Result<(), Fail> {
         "verify",
         source.as_str(),
         good.as_bytes(),
-        0,
-        b"verified\n",
+        (0, b"verified\n"),
     )?;
     let wrong = many_trees(rt.alloc(), "atomic")?;
     expect(
@@ -174,8 +173,7 @@ fn many_nodes_with_many_paths_are_judged(rt: HostRuntime) -> Result<(), Fail> {
         "verify",
         source.as_str(),
         wrong.as_bytes(),
-        11,
-        b"book refused: method 0 node 2: step\n",
+        (11, b"book refused: method 0 node 0: step\n"),
     )
 }
 
