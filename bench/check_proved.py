@@ -40,6 +40,7 @@ TOP_CALLS = {
     "The call that `main` makes": "commands",
     "The call that `atomic_why` makes": "explain_commands",
     "The call that `atomic_witness` makes": "witness_commands",
+    "The call that `atomic_trace` makes": "trace_commands",
 }
 # Words of the language, and of command lines.
 COMMANDS = "check print run serialise serialise-open replay derive verify blame verify-blame levels generate"

@@ -50,20 +50,22 @@ def words_of(line: bytes) -> Optional[Words]:
     return words if good else None
 
 
-def texts_of(data: bytes) -> tuple[list[bytes], bool]:
-    """The lines of a text; the last one may lack its end, and is then no line."""
-    lines = data.split(b"\n")
-    return lines[:-1] + ([lines[-1]] if lines[-1] else []), data == b"" or data.endswith(b"\n")
+def rows_of(data: bytes) -> tuple[list[bytes], bytes]:
+    """The rows of a text, each ended by a line feed; and the bytes behind the last of them."""
+    rows = data.split(b"\n")
+    return rows[:-1], rows[-1]
 
 
 def lines_of(data: bytes, is_line: Callable[[Words], bool], what: str, name: str) -> Iterator[tuple[int, Words]]:
-    """The words of each line of a text, with its number."""
-    texts, ended = texts_of(data)
-    for number, text in enumerate(texts, 1):
-        words = words_of(text)
-        if words is None or not is_line(words) or (number == len(texts) and not ended):
+    """The words of each line of a text, with its number, up to the first row that is no line."""
+    rows, rest = rows_of(data)
+    for number, row in enumerate(rows, 1):
+        words = words_of(row)
+        if words is None or not is_line(words):
             raise Refused(1, f"{name}:{number}: error: not a line of {what}")
         yield number, words
+    if rest:
+        raise Refused(1, f"{name}:{len(rows) + 1}: error: not a line of {what}")
 
 
 def is_event(words: Words) -> bool:
@@ -198,7 +200,7 @@ class Judge:
 
     def helps(self, words: Words, kind: str) -> str:
         """What would help an event that doesn't fit."""
-        deed, thread = words[1].decode("latin1"), words[0].decode("latin1")
+        deed, thread = words[1].decode("latin1"), show(words[0])
         if deed == "take":
             return f"it takes {show(words[2])} here: held from the beginning of the block on it would help"
         if deed == "join":
@@ -217,29 +219,29 @@ class Judge:
         committed = me.commit
         kind = self.turn(number, words)
         if kind == "bare" or (committed and kind not in ("left", "both")):
-            self.refuse(number, self.helps(words, kind), outermost, committed)
+            self.refuse(number, words, self.helps(words, kind), outermost)
         if not me.blocks:
             me.commit = None
         elif kind in ("left", "other") and not me.commit:
             me.commit = number
 
-    def refuse(self, number: int, helps: str, outermost: Optional[tuple[bytes, int]], committed: Optional[int]) -> None:
-        if outermost is None:
-            raise Refused(2, self.line(number, "error", helps))
-        name, began = outermost
-        lines = [
-            self.line(number, "error", f"{show(name)} may be cut before this event"),
-            self.line(began, "note", f"{show(name)} begins here"),
-        ]
+    def refuse(self, number: int, words: Words, helps: str, outermost: Optional[tuple[bytes, int]]) -> None:
+        """Tells that a thread may be cut before this event, with what it was in before it."""
+        lines = [self.line(number, "error", f"{show(words[0])} may be cut before this event")]
+        if outermost is not None:
+            lines.append(self.line(outermost[1], "note", f"{show(outermost[0])} begins here"))
+        committed = self.threads[words[0]].commit
         if committed:
             lines.append(self.line(committed, "note", "after this event others may see the block"))
         raise Refused(2, *lines, self.line(number, "note", helps))
 
-    def end(self) -> None:
+    def end(self, number: int) -> None:
+        """Tells a thread that is inside a block at the end, behind so many lines."""
         for thread, me in self.threads.items():
             if me.blocks:
                 name, began = me.blocks[0]
-                raise Refused(4, self.line(began, "error", f"{show(thread)} is still inside {show(name)} at the end"))
+                error = self.line(number + 1, "error", f"{show(thread)} is still inside a block at the end")
+                raise Refused(4, error, self.line(began, "note", f"{show(name)} begins here"))
 
 
 def show(word: bytes) -> str:
@@ -248,20 +250,24 @@ def show(word: bytes) -> str:
 
 def judge(name: str, data: bytes, guards: Optional[Guards] = None) -> tuple[int, list[str]]:
     """The status and the lines for a log."""
+    run, last = Judge(name, guessed(data) if guards is None else guards), 0
     try:
-        events = list(lines_of(data, is_event, "a log", name))
-        if guards is None:
-            guess = Guess()
-            for _, words in events:
-                guess.note(words)
-            guards = guess.guards()
-        run = Judge(name, guards)
-        for number, words in events:
-            run.note(number, words)
-        run.end()
+        for last, words in lines_of(data, is_event, "a log", name):
+            run.note(last, words)
+        run.end(last)
         return 0, ["serial"]
     except Refused as refused:
         return refused.status, list(refused.lines)
+
+
+def guessed(data: bytes) -> Guards:
+    """The guards that are guessed from a text. Rows that are no lines are passed over."""
+    guess = Guess()
+    for row in rows_of(data)[0]:
+        words = words_of(row)
+        if words is not None and is_event(words):
+            guess.note(words)
+    return guess.guards()
 
 
 def guards_of(name: str, data: bytes) -> Guards:

@@ -1,13 +1,13 @@
 #!/bin/sh
 # usage: package.sh [--unproved] FOLDER
-# Makes FOLDER/atomic_VERSION_amd64.deb of the proved programs crates/atomic_cli/out/atomic_cli,
-# crates/atomic_why/out/atomic_why and crates/atomic_witness/out/atomic_witness: the programs, the commands of tools/,
-# manual pages, completion for bash, examples and documents. It then installs the package into an empty root and runs it
-# there. docs/formats.md says how the version is made.
+# Makes FOLDER/atomic_VERSION_amd64.deb of the proved programs (crates/NAME/out/NAME, where NAME is atomic_cli,
+# atomic_why, atomic_witness or atomic_trace): the programs, the commands of tools/, manual pages, completion for bash,
+# examples and documents. It then installs the package into an empty root and runs it there. docs/formats.md says how
+# the version is made.
 #
-# With --unproved it takes what quick.sh builds, or what ATOMIC, ATOMIC_WHY and ATOMIC_WITNESS name; the version says
-# so. A proved program that is older than a file of the crates is refused. The package gets its name when it is whole
-# and was tried.
+# With --unproved it takes what quick.sh builds, or what ATOMIC, ATOMIC_WHY, ATOMIC_WITNESS and ATOMIC_TRACE name; the
+# version says so. A proved program that is older than a file of the crates is refused. The package gets its name when
+# it is whole and was tried.
 set -eu
 top=$(cd "$(dirname "$0")/.." && pwd)
 here=$(cd "$(dirname "$0")" && pwd)
@@ -26,13 +26,14 @@ umask 022
 # The programs.
 if [ $proved = yes ]; then
     atomic=$top/crates/atomic_cli/out/atomic_cli why=$top/crates/atomic_why/out/atomic_why
-    witness=$top/crates/atomic_witness/out/atomic_witness
+    witness=$top/crates/atomic_witness/out/atomic_witness trace=$top/crates/atomic_trace/out/atomic_trace
 else
     atomic=${ATOMIC-$top/crates/atomic_cli/out/atomic-unproved}
     why=${ATOMIC_WHY-$top/crates/atomic_why/out/atomic-why-unproved}
     witness=${ATOMIC_WITNESS-$top/crates/atomic_witness/out/atomic-witness-unproved}
+    trace=${ATOMIC_TRACE-$top/crates/atomic_trace/out/atomic-trace-unproved}
 fi
-for program in "$atomic" "$why" "$witness"; do
+for program in "$atomic" "$why" "$witness" "$trace"; do
     [ -x "$program" ] || { echo "package.sh: there is no $program" >&2; exit 1; }
     newer=$(find "$top/crates" -path '*/out' -prune -o -type f -newer "$program" -print | head -n 1)
     if [ $proved = yes ] && [ -n "$newer" ]; then
@@ -56,6 +57,7 @@ mkdir -p "$root/DEBIAN" "$root/usr/bin" "$share/atomic" "$share/man/man1" "$shar
 install -m 755 -s "$atomic" "$root/usr/bin/atomic"
 install -m 755 -s "$why" "$root/usr/bin/atomic_why"
 install -m 755 -s "$witness" "$root/usr/bin/atomic_witness"
+install -m 755 -s "$trace" "$root/usr/bin/atomic_trace"
 git -C "$top" ls-files tools/atomic_tools | while read -r file; do
     install -D -m 644 "$top/$file" "$share/atomic/$file"
 done
@@ -66,7 +68,7 @@ for tool in atomic-page atomic-witness atomic-sarif; do
     ln -s "../share/atomic/tools/$tool" "$root/usr/bin/$tool"
 done
 install -m 644 "$top/tools/atomic.bash" "$share/bash-completion/completions/atomic"
-for name in atomic_why atomic_witness atomic-java atomic-page atomic-witness atomic-sarif; do
+for name in atomic_why atomic_witness atomic_trace atomic-java atomic-page atomic-witness atomic-sarif; do
     ln -s atomic "$share/bash-completion/completions/$name"
 done
 for name in witness sarif; do ln -s atomic-page.1.gz "$share/man/man1/atomic-$name.1.gz"; done
@@ -96,8 +98,9 @@ Priority: optional
 Description: static checker for atomicity in a small Java-like language
  atomic says whether the locking of a source keeps what its methods promise,
  atomic_why which statements are why not, atomic_witness whether a schedule
- shows that a promise is broken. atomic-page, atomic-witness and atomic-sarif
- show it. atomic-java judges Java sources as they are.
+ shows that a promise is broken, atomic_trace whether the log of a run is
+ serial. atomic-page, atomic-witness and atomic-sarif show it. atomic-java
+ judges Java sources as they are.
 END
 # What Python keeps of the modules beside them goes with the package.
 cat > "$root/DEBIAN/prerm" <<'END'

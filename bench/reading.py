@@ -3,7 +3,7 @@
 
 The reading list has every definition that the headline stands on, directly or through others, in an order in which
 each uses only earlier ones, with the sentence that stands above it in its file. Behind that comes what each further
-clause of the two programs adds. Without --write both pages are compared with what stands in docs, and the exit
+clause of the programs adds. Without --write both pages are compared with what stands in docs, and the exit
 status is 1 where one differs.
 """
 import re
@@ -62,6 +62,7 @@ CLAUSES: list[tuple[str, str, str]] = [
     ("no_circles", "commands/NoCircles", "an ordered program reaches no circle of waiting threads"),
     ("replayed_calls", "commands/ReplayedCalls", "completed atomic calls agree with plain evaluation"),
     ("sentence", "explain_commands/Sentence", "`atomic_why` tells exactly the methods that break their bound"),
+    ("serial", "trace_commands/Sentence", "a log that `atomic_trace` calls serial has a serial order"),
 ]
 
 Item = tuple[Path, str]

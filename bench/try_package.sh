@@ -55,6 +55,10 @@ status=0
 said=$(chroot "$root" /usr/bin/atomic_witness $examples/tickets_race.java $examples/tickets_race.witness) || status=$?
 [ $status = 2 ] || wrong "atomic_witness ended with $status"
 [ "$said" = "broken: no schedule that interrupts no atomic call prints this" ] || wrong "atomic_witness says $said"
+printf 'a begin B\na end\n' > "$root/run.log"
+said=$(chroot "$root" /usr/bin/atomic_trace /run.log) || wrong "atomic_trace ended with $?"
+[ "$said" = serial ] || wrong "atomic_trace says $said"
+rm "$root/run.log"
 
 # The scripts, the manual page, the completion: from the root, with this machine's programs.
 ATOMIC=$root/usr/bin/atomic ATOMIC_WHY=$root/usr/bin/atomic_why

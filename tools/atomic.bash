@@ -51,6 +51,15 @@ _atomic_witness() {
     esac
 }
 
+_atomic_trace() {
+    local word=${COMP_WORDS[COMP_CWORD]} before=${COMP_WORDS[COMP_CWORD - 1]}
+    case $COMP_CWORD in
+    1) _atomic_files log ;;
+    2) _atomic_words "--guards" ;;
+    3) [ "$before" != --guards ] || _atomic_files guards ;;
+    esac
+}
+
 _atomic_tool() {
     local word=${COMP_WORDS[COMP_CWORD]} tool=${COMP_WORDS[0]##*/} options="--help --version --output"
     local number before=- count=0
@@ -85,5 +94,6 @@ _atomic_java() {
 complete -o filenames -F _atomic atomic
 complete -o filenames -F _atomic_why atomic_why
 complete -o filenames -F _atomic_witness atomic_witness
+complete -o filenames -F _atomic_trace atomic_trace
 complete -o filenames -F _atomic_java atomic-java
 complete -o filenames -F _atomic_tool atomic-page atomic-witness atomic-sarif

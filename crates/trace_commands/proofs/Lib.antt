@@ -1,0 +1,5 @@
+mod TraceCommandsAnswering
+mod Judging
+mod Found
+mod Ways
+mod Serials

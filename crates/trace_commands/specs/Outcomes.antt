@@ -1,0 +1,67 @@
+-- What was found before anything is written.
+use Rattle.std.specs.Prelude.{◌≡◌, ◌⊎◌, ℕ, ◌<◌, Bool, true, false, not, ◌==◌, List, ◌++◌, Option, Some, None, IfSome, length}
+use Rattle.edge.specs.Faults.{Rose}
+use Rattle.logs.specs.Logs.{Guard}
+use Rattle.edge.specs.Lines.{cannot_read_line, too_large_line}
+use Rattle.edge.specs.Said.{SaysText}
+use Rattle.trace_commands.specs.declared.guarding.Guarding.{Guarding}
+use Rattle.trace_commands.specs.declared.guarding.Guarding.TheVariants as ends
+use Rattle.trace_commands.specs.Answers.{IsAnswer}
+use Rattle.trace_commands.specs.Lines.{fault_line, no_guards_kind}
+
+-- how many bytes a log and a file of guards may have: 256 MB
+abbrev pub longest_file : ℕ
+longest_file = 268435456
+
+-- this is one of the files that are asked for
+abbrev pub IsNamed : (log : List ℕ) → (guards : Option (List ℕ)) → (name : List ℕ) → Type 0
+IsNamed log guards name = (name ≡ log) ⊎ (guards ≡ Some name)
+
+-- the status and the text belong to a log of these bytes, where places have these guards: the text is the first line that belongs to it, and notes
+pub record Answers (guard : ℕ → Guard) (log bytes : List ℕ) (status : ℕ) (text : List ℕ) : Type 0 where
+  pub line : List ℕ
+  pub answer : IsAnswer guard log bytes status line
+  pub notes : List ℕ
+  pub text_is : text ≡ line ++ notes
+
+-- what was found of a log: the guards and the bytes by which it was judged, which are the file's where that is told, and the answer, with notes
+-- behind its first line
+pub record IsJudged (log : List ℕ) (told : Option (List ℕ)) (status : ℕ) (text : List ℕ) : Type 0 where
+  pub guard : ℕ → Guard
+  pub bytes : List ℕ
+  pub its : IfSome told (λ file. bytes ≡ file)
+  pub answers : Answers guard log bytes status text
+
+-- the status and the text that are to be written
+pub data IsOutcome (log : List ℕ) (guards : Option (List ℕ)) (told : List ℕ → Option (List ℕ)) (before now : List ℕ → ℕ) : ℕ → List ℕ → Type 0 where
+  unread : (name : List ℕ) → IsNamed log guards name → Rose (before name) (now name) → IsOutcome log guards told before now 6 (cannot_read_line name)
+  -- guards were guessed, and when the log was read once more it hadn't the same number of bytes, as of a pipe nothing is left; so its bytes aren't told
+  changed : told log ≡ None → IsOutcome log guards told before now 6 (cannot_read_line log)
+  over : (name : List ℕ) → IsNamed log guards name → IfSome (told name) (λ file. longest_file < length file) → IsOutcome log guards told before now 10 (too_large_line name)
+  no_guards : (name : List ℕ) (line : ℕ) → guards ≡ Some name → IsOutcome log guards told before now 1 (fault_line name line no_guards_kind)
+  judged : (status : ℕ) (text : List ℕ) → IsJudged log (told log) status text → IsOutcome log guards told before now status text
+
+-- so many bytes were read of a log to guess, where guards were guessed; where the log is told, it has so many
+abbrev pub IsGuessed : (told : Option (List ℕ)) → (many : Option ℕ) → Type 0
+IsGuessed told many = IfSome many (λ n. IfSome told (λ file. length file ≡ n))
+
+-- whether so many bytes were read before, and now another number
+abbrev pub is_some_other : Option ℕ → ℕ → Bool
+is_some_other None many = false
+is_some_other (Some n) many = not (n == many)
+
+-- the log had another number of bytes before, and it can't be read; or the status and the text belong to it
+abbrev pub IsCounted : (ℕ → Guard) → (log bytes : List ℕ) → (before : Option ℕ) → (many status : ℕ) → (text : List ℕ) → Type 0
+IsCounted guard log bytes before many status text = ((is_some_other before many ≡ true) × (status ≡ 6) × (text ≡ cannot_read_line log)) ⊎ Answers guard log bytes status text
+
+-- what came of looking for guards: guards, and no file's count of faults changed; or how it ended
+abbrev pub IsGuarding : (log : List ℕ) → (guards : Option (List ℕ)) → (told : List ℕ → Option (List ℕ)) → (before now : List ℕ → ℕ) → Guarding → Type 0
+IsGuarding log guards told before now (ends.Guards g many) = ((name : List ℕ) → now name ≡ before name) × IsGuessed (told log) many
+IsGuarding log guards told before now (ends.Ended o) = IsOutcome log guards told before now o.status o.text.items
+
+-- a status and a text were found, and said
+pub record SaysOutcome (log : List ℕ) (guards : Option (List ℕ)) (told : List ℕ → Option (List ℕ)) (before now : List ℕ → ℕ) (old new : Option (List ℕ)) (sink_before sink_now result : ℕ) : Type 0 where
+  pub status : ℕ
+  pub text : List ℕ
+  pub outcome : IsOutcome log guards told before now status text
+  pub said : SaysText result status text old new sink_before sink_now
