@@ -14,7 +14,7 @@ use crate::floors::Floors;
 use crate::judged::Judged;
 use crate::line::Blame;
 use crate::said::Said;
-use crate::waiting::{Asking, ask_noting};
+use crate::waiting::ask_noting;
 use crate::waits::Waits;
 use core_program::CoreProgram;
 use paths::MethodId;
@@ -69,8 +69,7 @@ fn pass(
     while place < methods.len() {
         let id = MethodId(place as u32);
         let method = &methods[place];
-        let asking = Asking { judged, callers };
-        if ask_noting(alloc, &asking, said, waits, id, method)? {
+        if ask_noting(alloc, judged, callers, said, waits, id, method)? {
             return Ok(true);
         }
         place = waits.next(place + 1);

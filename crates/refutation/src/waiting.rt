@@ -38,39 +38,33 @@ fn callers_at(rows: &[Callers], place: usize) -> &[usize]
     }
 }
 
-/// What a method is asked by: the program that is judged, and the callers of each method.
-#[derive(Clone, Copy)]
-pub(crate) struct Asking<'a> {
-    pub(crate) judged: &'a Judged<'a>,
-    pub(crate) callers: &'a [Callers],
-}
-
 /// Asks of a method at each part of its relevant paths that has its required ones, up to the first line that is above its bound. Where
 /// that adds a line, the methods that call it wait, and those that it overrides, and it waits itself; else it waits no longer.
 pub(crate) fn ask_noting(
     alloc: Global,
-    asking: &Asking<'_>,
+    judged: &Judged<'_>,
+    callers: &[Callers],
     said: &mut Said<'_>,
     waits: &mut Waits,
     id: MethodId,
     method: &CoreMethod,
 ) -> Result<bool, NoMemory>
-    requires is { slice_get (program_of asking.now.judged.now.program.now).methods id ≡ Some (method_of method.now) }
-    requires over { AreOverriders (program_of asking.now.judged.now.program.now) asking.now.judged.now.over.now }
-    requires callers { AreCallers (program_of asking.now.judged.now.program.now) (overs_at asking.now.judged.now.over.now) asking.now.callers.now }
-    requires rows { length asking.now.callers.now ≡ length (program_of asking.now.judged.now.program.now).methods }
-    requires waits { length waits.old ≡ length (program_of asking.now.judged.now.program.now).methods }
-    requires relevant { AreRelevant (program_of asking.now.judged.now.program.now) asking.now.judged.now.sets.now }
-    requires agrees { KeptAgrees (program_of asking.now.judged.now.program.now) asking.now.judged.now.sets.now said.old.floors.sets.now said.old.floors.tables.items said.old.lines.items }
-    requires settled { AreSettled (program_of asking.now.judged.now.program.now) (rel_of asking.now.judged.now.sets.now) said.old.lines.items waits.old }
-    ensures agrees { OnOk result (KeptAgrees (program_of asking.now.judged.now.program.now) asking.now.judged.now.sets.now said.new.floors.sets.now said.new.floors.tables.items said.new.lines.items) }
-    ensures asked { IfOk result (λ broken. let rel = rel_of asking.now.judged.now.sets.now in
-        IsPass (program_of asking.now.judged.now.program.now) rel (cells_in id (method_of method.now).requires_ (subsets_of (rel id))) said.old.lines.items said.new.lines.items broken) }
+    requires is { slice_get (program_of judged.now.program.now).methods id ≡ Some (method_of method.now) }
+    requires over { AreOverriders (program_of judged.now.program.now) judged.now.over.now }
+    requires callers { AreCallers (program_of judged.now.program.now) (overs_at judged.now.over.now) callers.now }
+    requires rows { length callers.now ≡ length (program_of judged.now.program.now).methods }
+    requires waits { length waits.old ≡ length (program_of judged.now.program.now).methods }
+    requires relevant { AreRelevant (program_of judged.now.program.now) judged.now.sets.now }
+    requires agrees { KeptAgrees (program_of judged.now.program.now) judged.now.sets.now said.old.floors.sets.now said.old.floors.tables.items said.old.lines.items }
+    requires settled { AreSettled (program_of judged.now.program.now) (rel_of judged.now.sets.now) said.old.lines.items waits.old }
+    ensures agrees { OnOk result (KeptAgrees (program_of judged.now.program.now) judged.now.sets.now said.new.floors.sets.now said.new.floors.tables.items said.new.lines.items) }
+    ensures asked { IfOk result (λ broken. let rel = rel_of judged.now.sets.now in
+        IsPass (program_of judged.now.program.now) rel (cells_in id (method_of method.now).requires_ (subsets_of (rel id))) said.old.lines.items said.new.lines.items broken) }
     ensures size { length waits.new ≡ length waits.old }
-    ensures settled { IfOk result (λ broken. broken ≡ false → AreSettled (program_of asking.now.judged.now.program.now) (rel_of asking.now.judged.now.sets.now) said.new.lines.items waits.new) }
+    ensures settled { IfOk result (λ broken. broken ≡ false → AreSettled (program_of judged.now.program.now) (rel_of judged.now.sets.now) said.new.lines.items waits.new) }
 {
     let before = said.lines.len();
-    if ask_method(alloc, asking.judged, said, id, method)? {
+    if ask_method(alloc, judged, said, id, method)? {
         return Ok(true);
     }
     let place = id.0 as usize;
@@ -78,6 +72,6 @@ pub(crate) fn ask_noting(
         waits.sleep(place);
         return Ok(false);
     }
-    wake(waits, callers_at(asking.callers, place));
+    wake(waits, callers_at(callers, place));
     Ok(false)
 }
