@@ -32,12 +32,14 @@ public final class Attribution {
     private final Elements elements;
     private final SourcePositions positions;
     private final List<CompilationUnitTree> units = new ArrayList<>();
-    private final Map<Tree, Element> meanings = new IdentityHashMap<>();
-    private final Map<Tree, TypeMirror> kinds = new IdentityHashMap<>();
-    private final Map<Tree, Tree> parents = new IdentityHashMap<>();
-    private final Map<Tree, SourceText> texts = new IdentityHashMap<>();
+    private final Map<Tree, Known> all = new IdentityHashMap<>();
     private final Map<CompilationUnitTree, SourceText> sources = new IdentityHashMap<>();
     private final Map<SourceText, CompilationUnitTree> owners = new IdentityHashMap<>();
+
+    /** What is known of a tree: the one around it, the source that it stands in, its meaning and type or null. */
+    private record Known(Tree parent, SourceText source, Element meaning, TypeMirror kind) {
+        private static final Known NOTHING = new Known(null, null, null, null);
+    }
 
     /** Of a task that has attributed its sources. */
     public Attribution(JavacTask task, Map<CompilationUnitTree, SourceText> sources) {
@@ -60,7 +62,7 @@ public final class Attribution {
         Collector(CompilationUnitTree unit, SourceText source) {
             this.source = source;
             parent = unit;
-            texts.put(unit, source);
+            all.put(unit, new Known(null, source, null, null));
         }
 
         @Override
@@ -68,30 +70,29 @@ public final class Attribution {
             if (tree == null) {
                 return null;
             }
-            parents.put(tree, parent);
-            texts.put(tree, source);
             Tree before = parent;
+            keep(tree);
             parent = tree;
-            keep(new TreePath(getCurrentPath(), tree));
             super.scan(tree, nothing);
             parent = before;
             return null;
         }
 
-        private void keep(TreePath path) {
-            Tree tree = path.getLeaf();
-            boolean expression = tree instanceof ExpressionTree;
-            if (expression || tree instanceof ClassTree || tree instanceof MethodTree || tree instanceof VariableTree) {
-                Element meaning = trees.getElement(path);
-                if (meaning != null) {
-                    meanings.put(tree, meaning);
-                }
-                TypeMirror kind = trees.getTypeMirror(path);
-                if (kind != null) {
-                    kinds.put(tree, kind);
-                }
+        private void keep(Tree tree) {
+            Element meaning = null;
+            TypeMirror kind = null;
+            if (tree instanceof ExpressionTree || tree instanceof ClassTree || tree instanceof MethodTree
+                    || tree instanceof VariableTree) {
+                TreePath path = new TreePath(getCurrentPath(), tree);
+                meaning = trees.getElement(path);
+                kind = trees.getTypeMirror(path);
             }
+            all.put(tree, new Known(parent, source, meaning, kind));
         }
+    }
+
+    private Known known(Tree tree) {
+        return all.getOrDefault(tree, Known.NOTHING);
     }
 
     public Trees trees() {
@@ -116,22 +117,22 @@ public final class Attribution {
 
     /** The source that a tree stands in. */
     public SourceText source(Tree tree) {
-        return texts.get(tree);
+        return known(tree).source();
     }
 
     /** The tree around a tree, or null. */
     public Tree parent(Tree tree) {
-        return parents.get(tree);
+        return known(tree).parent();
     }
 
     /** What a name, call, class, method or variable means, or null. */
     public Element element(Tree tree) {
-        return meanings.get(tree);
+        return known(tree).meaning();
     }
 
     /** The type of an expression, or null. */
     public TypeMirror type(Tree tree) {
-        return kinds.get(tree);
+        return known(tree).kind();
     }
 
     public long start(Tree tree) {
@@ -143,22 +144,22 @@ public final class Attribution {
     }
 
     private CompilationUnitTree unit(Tree tree) {
-        return owners.get(texts.get(tree));
+        return owners.get(source(tree));
     }
 
     /** Where a tree begins. */
     public Place place(Tree tree) {
-        return texts.get(tree).place(start(tree));
+        return source(tree).place(start(tree));
     }
 
     /** Where the name of a declaration, a member or a call stands. */
     public Place name(Tree tree) {
-        return texts.get(tree).place(nameOffset(tree));
+        return source(tree).place(nameOffset(tree));
     }
 
     /** The offset of the name of a declaration, a member or a call. */
     public long nameOffset(Tree tree) {
-        SourceText text = texts.get(tree);
+        SourceText text = source(tree);
         if (tree instanceof MethodInvocationTree call) {
             return nameOffset(call.getMethodSelect());
         } else if (tree instanceof MemberSelectTree member) {
@@ -180,7 +181,7 @@ public final class Attribution {
     }
 
     private String owner(MethodTree method) {
-        return parents.get(method) instanceof ClassTree declared ? declared.getSimpleName().toString() : "";
+        return parent(method) instanceof ClassTree declared ? declared.getSimpleName().toString() : "";
     }
 
     private long behind(Tree tree, long otherwise) {

@@ -116,6 +116,9 @@ public final class Javac {
 
     private void refuseErrors(DiagnosticCollector<JavaFileObject> told, JavacTask task,
             Map<CompilationUnitTree, SourceText> sources) {
+        if (told.getDiagnostics().isEmpty()) {
+            return;
+        }
         Map<JavaFileObject, SourceText> texts = new HashMap<>();
         Map<JavaFileObject, List<long[]>> annotations = new HashMap<>();
         sources.forEach((unit, text) -> {

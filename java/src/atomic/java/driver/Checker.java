@@ -8,59 +8,108 @@ import java.nio.charset.StandardCharsets;
 import java.nio.file.Files;
 import java.nio.file.Path;
 import java.util.ArrayList;
+import java.util.LinkedHashSet;
 import java.util.List;
+import java.util.Set;
+import java.util.concurrent.ExecutionException;
+import java.util.concurrent.ExecutorService;
+import java.util.concurrent.Executors;
+import java.util.concurrent.Future;
+import java.util.concurrent.TimeUnit;
 
-/** Runs {@code atomic_why}, the proved program, on the text of a skeleton. No rule of atomicity stands in Java. */
-public final class Checker {
+/**
+ * Runs {@code atomic_why}, the proved program, on texts of skeletons: as many runs at once as there are processors. No
+ * rule of atomicity stands in Java.
+ */
+public final class Checker implements AutoCloseable {
 
     /** What the program wrote, and its status. */
     public record Answer(int status, List<String> lines) { }
+
+    /** The explanations of what is refused, and what each part of each method is, where that was asked. */
+    public record Answers(Answer explained, Answer listed) { }
 
     /** The most bytes that it reads. */
     public static final int MOST_BYTES = 262_144;
 
     private final Path program = find();
+    private final ExecutorService runs = Executors.newFixedThreadPool(Runtime.getRuntime().availableProcessors());
+    private final Set<Path> files = new LinkedHashSet<>();
 
-    /** The explanations of what is refused, and what each part of each method is, where that was asked. */
-    public record Answers(Answer explained, Answer listed) { }
+    /** A text that is being judged. */
+    public final class Question {
+        private final Future<Answer> explained;
+        private final Future<Answer> listed;
 
-    /** Judges a text. Its parts are listed at the same time, by a process of its own. */
-    public Answers judge(byte[] text, boolean listed) {
-        Path file = null;
-        try {
-            file = Files.createTempFile("atomic-java-", ".skeleton");
-            Files.write(file, text);
-            Process explaining = start(program.toString(), file.toString());
-            Process listing = listed ? start(program.toString(), "--all", file.toString()) : null;
-            Answer explained = answer(explaining, file + ":");
-            return new Answers(explained, listed ? answer(listing, file + ":") : new Answer(0, List.of()));
-        } catch (IOException fault) {
-            throw new Refusal(Options.NO_CHECKER, "cannot run " + program + ": " + fault.getMessage());
-        } catch (InterruptedException fault) {
-            throw new Refusal(Options.NO_CHECKER, "interrupted while " + program + " ran");
-        } finally {
-            remove(file);
+        private Question(Future<Answer> explained, Future<Answer> listed) {
+            this.explained = explained;
+            this.listed = listed;
+        }
+
+        /** Waits for the explanations alone. */
+        public Answer explained() {
+            return wait(explained);
+        }
+
+        /** Waits for all that was asked. */
+        public Answers answers() {
+            return new Answers(wait(explained), listed == null ? new Answer(0, List.of()) : wait(listed));
+        }
+
+        private Answer wait(Future<Answer> answer) {
+            try {
+                return answer.get();
+            } catch (ExecutionException fault) {
+                if (fault.getCause() instanceof Error error) {
+                    throw error;
+                }
+                throw new Refusal(Options.NO_CHECKER, "cannot run " + program + ": " + fault.getCause().getMessage());
+            } catch (InterruptedException fault) {
+                throw new Refusal(Options.NO_CHECKER, "interrupted while " + program + " ran");
+            }
         }
     }
 
-    private static Process start(String... words) throws IOException {
-        Process process = new ProcessBuilder(words).redirectError(ProcessBuilder.Redirect.INHERIT).start();
-        process.getOutputStream().close();
-        return process;
+    /** Has a text judged. Its parts are listed at the same time, by a process of its own. */
+    public Question ask(byte[] text, boolean listed) {
+        try {
+            Path file = Files.createTempFile("atomic-java-", ".skeleton");
+            files.add(file);
+            Files.write(file, text);
+            return new Question(runs.submit(() -> answer(file)), listed ? runs.submit(() -> answer(file, "--all")) : null);
+        } catch (IOException fault) {
+            throw new Refusal(Options.NO_CHECKER, "cannot write a file for " + program + ": " + fault.getMessage());
+        }
     }
 
-    private static Answer answer(Process process, String front) throws IOException, InterruptedException {
+    private Answer answer(Path file, String... options) throws IOException, InterruptedException {
+        List<String> words = new ArrayList<>(List.of(program.toString()));
+        words.addAll(List.of(options));
+        words.add(file.toString());
+        Process process = new ProcessBuilder(words).redirectError(ProcessBuilder.Redirect.INHERIT).start();
+        process.getOutputStream().close();
         String told = new String(process.getInputStream().readAllBytes(), StandardCharsets.UTF_8);
+        String front = file + ":";
         List<String> lines = told.lines().map(line -> line.startsWith(front) ? line.substring(front.length()) : line)
             .toList();
         return new Answer(process.waitFor(), lines);
     }
 
+    /** Begins no further run, waits for those that have begun, and leaves no file behind. */
+    @Override
+    public void close() {
+        runs.shutdownNow();
+        try {
+            runs.awaitTermination(1, TimeUnit.MINUTES);
+        } catch (InterruptedException fault) {
+            Thread.currentThread().interrupt();
+        }
+        files.forEach(Checker::remove);
+    }
+
     private static void remove(Path file) {
         try {
-            if (file != null) {
-                Files.deleteIfExists(file);
-            }
+            Files.deleteIfExists(file);
         } catch (IOException fault) {
             // A temporary file that can't be removed changes no answer.
             return;

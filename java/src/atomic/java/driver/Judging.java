@@ -26,7 +26,8 @@ import java.util.stream.Collectors;
 
 /**
  * Has the skeleton judged. One that is larger than the checker reads is judged in pieces, each with all that its methods
- * call. A method that breaks a limit of the checker counts as compound, and that is told.
+ * call. A method that breaks a limit of the checker counts as compound, and that is told. All pieces are written before
+ * the first answer is looked at, and the answers are taken in the same order, so that nothing depends on which comes first.
  */
 final class Judging {
     private static final Pattern LISTED = Pattern.compile("\\d+:\\d+: (\\w+): (\\S+) 0");
@@ -35,41 +36,78 @@ final class Judging {
 
     private final Program program;
     private final Methods methods;
-    private final Checker checker = new Checker();
+    private final Checker checker;
     private final Callees callees;
+    private final List<Piece> asked = new ArrayList<>();
     private final Set<Method> reduced = new LinkedHashSet<>();
     private final List<String> lines = new ArrayList<>();
     private final List<Text> texts = new ArrayList<>();
     private final Map<String, String> found = new HashMap<>();
     private final Pieces pieces;
+    private int repairs;
     private int status;
 
-    Judging(Program program, Methods methods) {
+    Judging(Program program, Methods methods, Checker checker) {
         this.program = program;
         this.methods = methods;
+        this.checker = checker;
         List<Method> all = new ArrayList<>();
         program.shapes().forEach(shape -> all.addAll(shape.methods()));
         callees = new Callees(all);
         pieces = new Pieces(program, callees);
     }
 
-    /** Judges all methods. */
-    void run() {
-        judge(roots(), true);
+    /** A text that is being judged: the methods that it has, and how many repairs there were before it. */
+    private final class Piece {
+        private final Set<Method> wanted;
+        private final boolean listed;
+        private Writer writer;
+        private Text text;
+        private Checker.Question question;
+        private int repaired;
+
+        Piece(Set<Method> wanted, boolean listed) {
+            this.wanted = wanted;
+            this.listed = listed;
+            write();
+        }
+
+        void write() {
+            writer = pieces.writer();
+            text = writer.write(program.shapes(), wanted);
+            repaired = repairs;
+            question = checker.ask(text.bytes(), listed);
+        }
     }
 
-    /** Judges the methods at which these errors were told, and tells of errors alone. */
-    void run(List<String> errors) {
+    /** Begins to judge all methods. */
+    void ask() {
+        ask(roots(), true);
+    }
+
+    /** Begins to judge the methods at which these errors were told, and will tell of errors alone. */
+    void ask(List<String> errors) {
         Set<String> places = errors.stream().filter(line -> line.contains(Certainty.ERROR))
             .map(line -> line.substring(0, line.indexOf(Certainty.ERROR))).collect(Collectors.toSet());
-        judge(roots().stream().filter(each -> places.contains(String.valueOf(each.place()))).toList(), false);
+        ask(roots().stream().filter(each -> places.contains(String.valueOf(each.place()))).toList(), false);
     }
 
-    private void judge(List<Method> all, boolean listed) {
+    private void ask(List<Method> all, boolean listed) {
         pieces.begin(all);
         do {
-            judge(pieces.next(this::cut), listed);
+            asked.add(new Piece(pieces.next(this::cut), listed));
         } while (pieces.hasNext());
+    }
+
+    /** Waits for the first text that is refused; whether there is one. */
+    boolean isRefused() {
+        return asked.stream().anyMatch(each -> each.question.explained().status() != 0);
+    }
+
+    /** Waits for all answers. */
+    void finish() {
+        asked.forEach(this::judge);
+        asked.clear();
     }
 
     private List<Method> roots() {
@@ -81,17 +119,18 @@ final class Judging {
         return roots;
     }
 
-    private void judge(Set<Method> wanted, boolean listed) {
+    private void judge(Piece piece) {
         for (int k = 0; k < MOST_REPAIRS; k++) {
-            Writer writer = pieces.writer();
-            Text text = writer.write(program.shapes(), wanted);
-            Checker.Answers answers = checker.judge(text.bytes(), listed);
+            Checker.Answers answers = piece.question.answers();
             Checker.Answer told = answers.explained();
             if (told.status() != Options.NOT_JAVA && told.status() != Options.TOO_LARGE) {
-                accept(text, answers);
+                accept(piece.text, answers);
                 return;
             }
-            repair(writer, told, wanted);
+            if (piece.repaired == repairs) {
+                repair(piece.writer, told, piece.wanted);
+            }
+            piece.write();
         }
         throw new Refusal(Options.TOO_LARGE, "the sources break too many limits of the checker");
     }
@@ -136,6 +175,7 @@ final class Judging {
     }
 
     private void reduce(Method method, String kind, Set<Method> wanted) {
+        repairs++;
         if (method.place() != null) {
             program.notes().tell(Notes.Kind.APPROXIMATED, methods.origin(method), method.place(), "limit: the checker says "
                 + kind + (kind.equals("bad override") ? ", so no caller is taken to hold a lock for it"

@@ -48,13 +48,27 @@ public final class Run {
         if (options.explain() != null) {
             return explain(program, methods, answer);
         }
-        Judging judging = new Judging(program, methods);
-        judging.run();
+        try (Checker checker = new Checker()) {
+            return judge(attribution, program, methods, checker, answer);
+        }
+    }
+
+    private int judge(Attribution attribution, Program program, Methods methods, Checker checker, StringBuilder answer) {
+        Judging judging = new Judging(program, methods, checker);
+        judging.ask();
+        boolean refused = program.notes().approximates() && judging.isRefused();
+        Judging certain = refused ? certain(attribution, checker) : null;
+        judging.finish();
         emit(judging.texts());
         if (!options.quiet()) {
             program.notes().lines().forEach(line -> answer.append(line).append('\n'));
         }
-        lines(attribution, program, judging).forEach(line -> answer.append(line).append('\n'));
+        if (judging.status() != 0 && program.notes().approximates()) {
+            certain = certain == null ? certain(attribution, checker) : certain;
+            lines(judging, certain).forEach(line -> answer.append(line).append('\n'));
+        } else {
+            judging.lines().forEach(line -> answer.append(line).append('\n'));
+        }
         long promised = program.methods().stream().filter(methods::promises).count();
         System.err.println(new Summary(program.notes(), methods).line(judging, (int) promised));
         hint(program, methods, promised);
@@ -68,14 +82,16 @@ public final class Run {
         return methods;
     }
 
-    /** The errors, each with what else is refused for certain where something is approximated. */
-    private List<String> lines(Attribution attribution, Program program, Judging judging) {
-        if (judging.status() == 0 || !program.notes().approximates()) {
-            return judging.lines();
-        }
+    /** What is left without what is approximated. It is made while the answers about all are still awaited. */
+    private Judging certain(Attribution attribution, Checker checker) {
         Program rest = new Program(attribution, options, true);
-        Judging certain = new Judging(rest, skeleton(rest));
-        certain.run(judging.lines());
+        return new Judging(rest, skeleton(rest), checker);
+    }
+
+    /** The errors, each with what else is refused for certain. */
+    private static List<String> lines(Judging judging, Judging certain) {
+        certain.ask(judging.lines());
+        certain.finish();
         return new Certainty(judging.lines(), certain.lines()).lines();
     }
 

@@ -71,7 +71,7 @@ public final class Inference {
     private static void races(Field field, Tally tally, Names names, Notes notes) {
         tally.held.entrySet().stream().filter(each -> 100 * each.getValue() >= MOST_OF_RACE * tally.all)
             .max(Comparator.comparingInt((Map.Entry<List<Field>, Integer> each) -> each.getValue())
-                .thenComparing(each -> -each.getKey().size())).ifPresent(best ->
+                .thenComparing(each -> each.getKey(), (one, other) -> isBefore(one, other) ? 1 : -1)).ifPresent(best ->
             tally.places.forEach((place, held) -> {
                 if (!held.contains(best.getKey())) {
                     notes.tell(Notes.Kind.DATA_RACE, null, place, names.shown(field.name())
@@ -127,9 +127,13 @@ public final class Inference {
         return best;
     }
 
+    /** Whether a lock has the shorter name, or that which comes first of two as long. No two locks have the same. */
     private static boolean isBefore(List<Field> one, List<Field> other) {
-        return one.size() != other.size() ? one.size() < other.size()
-            : one.toString().compareTo(other.toString()) < 0;
+        return one.size() != other.size() ? one.size() < other.size() : spelled(one).compareTo(spelled(other)) < 0;
+    }
+
+    private static String spelled(List<Field> lock) {
+        return lock.stream().map(each -> each.owner().name() + "." + each.name()).collect(Collectors.joining("."));
     }
 
     /** Lets each method that is called from known places only require the guards that all these places hold. */

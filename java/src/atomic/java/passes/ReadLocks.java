@@ -22,7 +22,10 @@ public final class ReadLocks {
 
     /** Takes the names of the locks whose readers write. */
     public void run() {
-        boolean changed = true;
+        boolean changed = methods.stream().anyMatch(method -> hasReaders(method.body()));
+        if (!changed) {
+            return;
+        }
         while (changed) {
             changed = false;
             for (Method method : methods) {
@@ -30,6 +33,11 @@ public final class ReadLocks {
             }
         }
         methods.forEach(method -> method.body(rename(method.body())));
+    }
+
+    private static boolean hasReaders(Part part) {
+        return part instanceof Part.Region region && region.mode() == Part.Mode.SHARED
+            || part.parts().stream().anyMatch(ReadLocks::hasReaders);
     }
 
     private boolean writes(Part part) {

@@ -3,21 +3,27 @@ package atomic.java.places;
 import atomic.java.skeleton.Place;
 import java.nio.charset.StandardCharsets;
 import java.util.ArrayList;
+import java.util.Arrays;
 import java.util.List;
-import java.util.TreeMap;
 
 /** The text of a skeleton as it is written, with the Java place of each of its places. All its characters are ASCII. */
 public final class Text {
     private final StringBuilder text = new StringBuilder();
-    private final List<TreeMap<Integer, Place>> marks = new ArrayList<>(List.of(new TreeMap<>()));
-    private int lineStart;
+    private final List<Place> places = new ArrayList<>();
+    private int[] marks = new int[16];
+    private int[] starts = new int[16];
+    private int lines = 1;
     private int depth;
     private boolean flat;
 
     /** What is written from here on comes from this place. */
     public Text mark(Place place) {
-        if (place != null) {
-            marks.get(marks.size() - 1).put(text.length() - lineStart + 1, place);
+        int last = places.size() - 1;
+        if (place != null && last >= 0 && marks[last] == text.length()) {
+            places.set(last, place);
+        } else if (place != null) {
+            marks = with(marks, places.size(), text.length());
+            places.add(place);
         }
         return this;
     }
@@ -35,9 +41,15 @@ public final class Text {
     /** Ends the line behind {@code words}. */
     public Text line(String words) {
         text.append(words).append('\n');
-        lineStart = text.length();
-        marks.add(new TreeMap<>());
+        starts = with(starts, lines++, text.length());
         return this;
+    }
+
+    /** An array with a value at an index, which may be the first one behind its end. */
+    private static int[] with(int[] all, int index, int value) {
+        int[] enough = index < all.length ? all : Arrays.copyOf(all, 2 * index);
+        enough[index] = value;
+        return enough;
     }
 
     /** Begins a line. */
@@ -65,16 +77,19 @@ public final class Text {
 
     /** The place in Java: of the last mark before the place on its line, or null. */
     public Place place(int line, int column) {
-        if (line < 1 || line > marks.size()) {
+        if (line < 1 || line > lines) {
             return null;
         }
-        var before = marks.get(line - 1).floorEntry(column);
-        return before == null ? null : before.getValue();
+        int start = starts[line - 1];
+        int end = line < lines ? starts[line] - 1 : text.length();
+        int found = Arrays.binarySearch(marks, 0, places.size(), Math.min(start + column - 1, end));
+        int before = found >= 0 ? found : -found - 2;
+        return before < 0 || marks[before] < start ? null : places.get(before);
     }
 
     /** The number of the line that is written now. */
     public int lines() {
-        return marks.size();
+        return lines;
     }
 
     public byte[] bytes() {
