@@ -32,8 +32,8 @@ install -m 755 "$top/java/atomic-java" "$out/atomic-java"
 # What Java keeps of a first run, so that the next ones begin in half the time. A launcher without it only begins later.
 rm -f "$out/atomic-java.jsa"
 ATOMIC_WHY=/bin/true java -XX:ArchiveClassesAtExit="$out/atomic-java.jsa" -XX:TieredStopAtLevel=1 -XX:+UseSerialGC \
-    -Datomic.annotations="$out/atomic-java.jar" -cp "$out/atomic-java.jar" atomic.java.Main \
-    "$top/examples/account_java.java" > /dev/null 2>&1 || rm -f "$out/atomic-java.jsa"
+    -Datomic.annotations="$out/atomic-java.jar" -cp "$out/atomic-java.jar" atomic.java.Main --public --infer \
+    "$top/examples/account_java.java" "$top"/java/tests/larger/*.java > /dev/null 2>&1 || rm -f "$out/atomic-java.jsa"
 made=$top/crates/atomic_why/out
 if [ -z "${ATOMIC_WHY-}" ] && [ ! -x "$made/atomic_why" ] && [ ! -x "$made/atomic-why-unproved" ] \
     && [ ! -x "$out/atomic_why" ] && ! command -v atomic_why > /dev/null; then

@@ -2,7 +2,7 @@
 
 A line of a log is a thread, an action and its words, and behind a tab the place in the source
 (java/src/atomic/trace/Log.java). The guard of a place is a lock that is held at each access of it in this run; what one
-thread alone touches wants none.
+thread alone touches wants none. What holds a lock that is held at each write of a place may read it like that.
 """
 import re
 from collections import defaultdict
@@ -69,19 +69,20 @@ def with_held(events: list[Event]) -> Iterator[tuple[Event, dict[str, int]]]:
             mine[event.target] += 1 if event.action == "take" else -1
 
 
-def guards_of(events: list[Event], told: set[int]) -> dict[str, set[str]]:
-    """For each place the locks that are held at every access of it; what stands in these lines, which are told as
+def guards_of(events: list[Event], told: set[int], actions: tuple[str, ...]) -> dict[str, set[str]]:
+    """For each place the locks that are held at every such access of it; what stands in these lines, which are told as
     errors, is left out."""
     guards: dict[str, set[str]] = {}
     for event, held in with_held(events):
-        if event.action in ACCESSES and event.line not in told:
+        if event.action in actions and event.line not in told:
             guards[event.target] = guards.get(event.target, set(held)) & set(held)
     return guards
 
 
 def kinds_of(events: list[Event], told: set[int]) -> dict[int, str]:
     """The kind of each event by its line: right, left, both, or none of them."""
-    guards, shared, kinds = guards_of(events, told), shared_objects(events), {}
+    guards, shared, kinds = guards_of(events, told, ACCESSES), shared_objects(events), {}
+    writers = guards_of(events, told, ("write", "change"))
     for event, held in with_held(events):
         kind = "both"
         if event.action == "take" and not held.get(event.target):
@@ -91,7 +92,8 @@ def kinds_of(events: list[Event], told: set[int]) -> dict[int, str]:
         elif event.action == "join":
             kind = "right"
         elif event.action in ACCESSES and event.object in shared and not guards.get(event.target):
-            kind = "none"
+            alone = event.action == "read" and writers.get(event.target, set()) & set(held)
+            kind = "both" if alone else "none"
         kinds[event.line] = kind
     return kinds
 
@@ -129,16 +131,31 @@ def behind_waits(block: Block) -> list[Event]:
     return block.events[waits[-1] + 1 :]
 
 
+def counted(events: list[Event], repeats: dict[str, str]) -> list[Event]:
+    """The events without the looks that are no step: where another place is next, or everywhere if that is the same."""
+    kept = []
+    for at, event in enumerate(events):
+        again = repeats.get(event.place)
+        if again and event.action == "read":
+            further = (each.place for each in events[at + 1 :] if each.place in (event.place, again))
+            if again == event.place or next(further, "") == again:
+                continue
+        kept.append(event)
+    return kept
+
+
 def is_reducible(kinds: list[str]) -> bool:
     """Whether right and both movers come first, then at most one other step, then left and both movers."""
     letters = "".join({"right": "R", "left": "L", "both": "B", "none": "N"}[kind] for kind in kinds)
     return re.fullmatch(r"[RB]*N?[LB]*", letters) is not None
 
 
-def as_log(events: list[Event], texts: list[str], atomic: set[str]) -> str:
-    """The log in the format of docs/traces.md: blocks are ended calls of atomic methods, behind their waits, and places
-    are left out."""
+def as_log(events: list[Event], texts: list[str], atomic: set[str], repeats: dict[str, str]) -> str:
+    """The log in the format of docs/traces.md: blocks are ended calls of atomic methods, behind their waits; places are
+    left out, and so are the looks in them that are no step."""
     blocks = [block for block in blocks_of(events, atomic) if block.ended and behind_waits(block)]
+    looks = {event.line for block in blocks for event in block.events}
+    looks -= {event.line for block in blocks for event in counted(block.events, repeats)}
     begins = {behind_waits(block)[0].line: block.name for block in blocks}
     ends = {block.events[-1].line for block in blocks}
     lines = []
@@ -147,6 +164,6 @@ def as_log(events: list[Event], texts: list[str], atomic: set[str]) -> str:
             lines.append(f"{event.thread} begin {begins[event.line]}")
         if event.line in ends:
             lines.append(f"{event.thread} end")
-        if event.action not in UNJUDGED + ("begin", "end"):
+        if event.action not in UNJUDGED + ("begin", "end") and event.line not in looks:
             lines.append(text.partition("\t")[0])
     return "\n".join(lines) + "\n"

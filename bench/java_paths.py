@@ -52,9 +52,16 @@ def skeleton_of(path: Path) -> list[Method]:
     methods = []
     for line in path.read_text(encoding="utf-8").splitlines():
         head, _, body = line.partition("\t")
-        _, place, name = head.split(" ")
-        methods.append(Method(place, name, part_of(TOKEN.findall(body)[::-1])))
+        word, place, name = head.split(" ")
+        if word == "method":
+            methods.append(Method(place, name, part_of(TOKEN.findall(body)[::-1])))
     return methods
+
+
+def repeats_of(path: Path) -> dict[str, str]:
+    """The looks that are no step where another place is next, each with that place."""
+    words = (line.split(" ") for line in path.read_text(encoding="utf-8").splitlines())
+    return {word[1]: word[2] for word in words if word[0] == "repeat"}
 
 
 class Walk:

@@ -17,8 +17,8 @@ from collections import Counter
 from dataclasses import dataclass, field
 from pathlib import Path
 
-from java_logs import as_log, behind_waits, blocks_of, events_of, is_reducible, kinds_of, shared_objects
-from java_paths import Method, skeleton_of, unseen
+from java_logs import as_log, behind_waits, blocks_of, counted, events_of, is_reducible, kinds_of, shared_objects
+from java_paths import Method, repeats_of, skeleton_of, unseen
 from java_sources import PROGRAM, TOP, run
 
 TESTS = TOP / "java" / "tests"
@@ -41,13 +41,15 @@ class Counts:
 
 @dataclass(frozen=True)
 class Judged:
-    """A source that was judged: its file, the class that is run, the lines of its errors, and its skeleton."""
+    """A source that was judged: its file, the class that is run, the lines of its errors, its skeleton, and the looks in
+    it that are no step where another place is next."""
 
     path: Path
     name: str
     refused: frozenset[int]
     unguarded: frozenset[int]
     skeleton: list[Method]
+    repeats: dict[str, str]
 
 
 def judge(path: Path, folder: Path, program: Path) -> Judged | None:
@@ -62,7 +64,9 @@ def judge(path: Path, folder: Path, program: Path) -> Judged | None:
     name = f"{package[1]}.{path.stem}" if package else path.stem
     errors = answer.errors_of(path)
     unguarded = frozenset(line.line for line in errors if line.text.endswith("found error"))
-    return Judged(path, name, frozenset(line.line for line in errors), unguarded, skeleton_of(folder / "skeleton.txt"))
+    skeleton = folder / "skeleton.txt"
+    refused = frozenset(line.line for line in errors)
+    return Judged(path, name, refused, unguarded, skeleton_of(skeleton), repeats_of(skeleton))
 
 
 def compiled(folder: Path, archive: Path) -> bool:
@@ -94,7 +98,8 @@ def look(source: Judged, log: Path, counts: Counts) -> str:
     for block in blocks_of(events, promised):
         if not block.ended:
             continue
-        reducible = is_reducible([kinds[event.line] for event in behind_waits(block)])
+        steps = counted(behind_waits(block), source.repeats)
+        reducible = is_reducible([kinds[event.line] for event in steps])
         if block.name not in atomic:
             counts.others += 1
             counts.broken[f"{source.path.name}: {block.name}"] += not reducible
@@ -103,13 +108,13 @@ def look(source: Judged, log: Path, counts: Counts) -> str:
         counts.steps += len(block.events)
         if not reducible:
             counts.wrong.append(f"{log.name}: {block.name} in line {block.events[0].line} isn't reducible")
-        missing = unseen(source.skeleton, behind_waits(block), shared, block.name.rpartition("@")[2])
+        missing = unseen(source.skeleton, steps, shared, block.name.rpartition("@")[2])
         if missing:
             counts.wrong.append(
                 f"{log.name}:{missing.line}: {block.name}: the skeleton lacks {missing.action} {missing.target} "
                 f"at {missing.place}"
             )
-    return as_log(events, log.read_text(encoding="utf-8").splitlines(), atomic)
+    return as_log(events, log.read_text(encoding="utf-8").splitlines(), atomic, source.repeats)
 
 
 def trace(source: Judged, folder: Path, archive: Path, runs: int, counts: Counts, logs: Path | None) -> None:

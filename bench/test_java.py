@@ -65,14 +65,22 @@ class Tester:
             self.tell(f"{shown}:{number}: no mark, given {errors[number]}")
 
     def adversaries(self) -> None:
-        """Each adversary in a package of its own, many in one run."""
-        for batch in batches(sorted((TESTS / "adversaries").glob("*.java")), 25):
+        """Each adversary in a package of its own, many in one run with the same options; those that patch a module
+        belong to java.util."""
+        groups: dict[str, list[Path]] = {}
+        for path in sorted((TESTS / "adversaries").glob("*.java")):
+            found = OPTIONS.search(path.read_text(encoding="utf-8"))
+            groups.setdefault(found[1] if found else "", []).append(path)
+        for options, batch in ((words.split(), part) for words, paths in groups.items() for part in batches(paths, 25)):
             texts = {path: path.read_text(encoding="utf-8") for path in batch}
+            patched = "{folder}" in " ".join(options)
             copies = {
-                path: write_into_package(text, "adversary." + path.stem.lower(), self.folder, path.name)
+                path: write_into_package(
+                    text, "java.util" if patched else "adversary." + path.stem.lower(), self.folder, path.name
+                )
                 for path, text in texts.items()
             }
-            answer = self.judged([], list(copies.values()))
+            answer = self.judged([word.format(folder=self.folder) for word in options], list(copies.values()))
             for path, text in texts.items():
                 self.marked(path.name, text, copies[path], answer, whole=False)
 

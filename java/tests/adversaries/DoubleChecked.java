@@ -1,4 +1,4 @@
-// The first look is without the lock, so the method has two steps.
+// The first look is without the lock, and the field may be taken back between it and the next one.
 class DoubleChecked {
     private volatile DoubleChecked instance;
 
@@ -9,5 +9,9 @@ class DoubleChecked {
             }
         }
         return instance;
+    }
+
+    synchronized void reset() {
+        instance = null;
     }
 }

@@ -18,7 +18,7 @@ public class Gauges {
     private double last;
     private double highest;
 
-    public static Gauges get() { // refused: alarm: double-checked locking is right, but no lock covers its first look
+    public static Gauges get() { // accepted
         Gauges found = instance;
         if (found == null) {
             synchronized (Gauges.class) {
@@ -64,7 +64,7 @@ public class Gauges {
         return all;
     }
 
-    public Map<String, String> labels() { // refused: alarm: the same double check, of a field
+    public Map<String, String> labels() { // accepted
         Map<String, String> found = labels;
         if (found == null) {
             synchronized (this) {

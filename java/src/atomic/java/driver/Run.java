@@ -1,5 +1,6 @@
 package atomic.java.driver;
 
+import atomic.java.Main;
 import atomic.java.attribution.Attribution;
 import atomic.java.attribution.Javac;
 import atomic.java.options.Options;
@@ -30,6 +31,9 @@ import java.util.List;
 
 /** One run of the program: from the words of the command line to the answer. */
 public final class Run {
+    /** Of so many methods some are refused, so what is left without what is approximated is made ready at once. */
+    private static final int MANY = 500;
+
     private final Options options;
 
     public Run(Options options) {
@@ -43,7 +47,7 @@ public final class Run {
         Methods methods = skeleton(program);
         if (options.log() != null) {
             new Copies(attribution, program.library(), tree -> methods.promises(program.method(attribution.element(tree))))
-                .write(options.log(), all(program));
+                .write(options.log(), all(program), methods.repeats());
         }
         if (options.explain() != null) {
             return explain(program, methods, answer);
@@ -54,10 +58,14 @@ public final class Run {
     }
 
     private int judge(Attribution attribution, Program program, Methods methods, Checker checker, StringBuilder answer) {
+        boolean approximates = program.notes().approximates();
         Judging judging = new Judging(program, methods, checker);
-        judging.ask();
-        boolean refused = program.notes().approximates() && judging.isRefused();
-        Judging certain = refused ? certain(attribution, checker) : null;
+        Beside asking = new Beside(judging::ask, Main.STACK);
+        Judging certain = approximates && program.methods().size() > MANY ? certain(attribution, checker) : null;
+        asking.join();
+        if (certain == null && approximates && judging.isRefused()) {
+            certain = certain(attribution, checker);
+        }
         judging.finish();
         emit(judging.texts());
         if (!options.quiet()) {
@@ -82,7 +90,10 @@ public final class Run {
         return methods;
     }
 
-    /** What is left without what is approximated. It is made while the answers about all are still awaited. */
+    /**
+     * What is left without what is approximated. It is made while the whole is written or the answers about it are awaited,
+     * with which it shares nothing but what javac said, and on the thread that asks javac.
+     */
     private Judging certain(Attribution attribution, Checker checker) {
         Program rest = new Program(attribution, options, true);
         return new Judging(rest, skeleton(rest), checker);

@@ -8,9 +8,12 @@ import atomic.java.program.JavaMethod;
 import atomic.java.program.Program;
 import com.sun.source.tree.AssignmentTree;
 import com.sun.source.tree.ClassTree;
+import com.sun.source.tree.ConditionalExpressionTree;
+import com.sun.source.tree.EnhancedForLoopTree;
 import com.sun.source.tree.ExpressionTree;
 import com.sun.source.tree.IdentifierTree;
 import com.sun.source.tree.LambdaExpressionTree;
+import com.sun.source.tree.MemberReferenceTree;
 import com.sun.source.tree.MemberSelectTree;
 import com.sun.source.tree.MethodInvocationTree;
 import com.sun.source.tree.MethodTree;
@@ -18,6 +21,7 @@ import com.sun.source.tree.NewClassTree;
 import com.sun.source.tree.ReturnTree;
 import com.sun.source.tree.SynchronizedTree;
 import com.sun.source.tree.Tree;
+import com.sun.source.tree.TypeCastTree;
 import com.sun.source.tree.VariableTree;
 import com.sun.source.util.TreeScanner;
 import java.util.HashMap;
@@ -48,6 +52,8 @@ public final class Nodes {
         this.ownership = ownership;
         attribution = program.attribution();
         mentions = new Mentions(program);
+        program.classes().forEach(this::container);
+        ownership.escape().selves().nodesAre(this::container);
     }
 
     /** The container of a class of nodes, or null. */
@@ -189,14 +195,59 @@ public final class Nodes {
             Element symbol = attribution.element(tree);
             JavaMethod method = program.method(symbol);
             List<? extends ExpressionTree> arguments = tree.getArguments();
+            boolean given = false;
             for (int k = 0; k < arguments.size(); k++) {
-                if (isNodes(arguments.get(k))) {
+                if (isNodes(arguments.get(k)) && !(Uses.bare(arguments.get(k)) instanceof LambdaExpressionTree)) {
+                    given = true;
                     need(method != null ? takesNode(method, k) : isKept(tree));
                 }
+            }
+            boolean holder = tree.getMethodSelect() instanceof MemberSelectTree select && isNodes(select.getExpression());
+            if (method == null && (given || holder)) {
+                arguments.forEach(each -> need(!isFunction(each) || isAtHand(each)));
+                need(isNodes(tree) || isValue(attribution.type(tree)));
             }
             need(!(symbol != null && symbol.getSimpleName().contentEquals("clone") && current == outer
                 && tree.getMethodSelect().toString().startsWith("super.")));
             return super.visitMethodInvocation(tree, nothing);
+        }
+
+        /** Whether an argument is an object with a function, which the callee then gives nodes. */
+        private boolean isFunction(ExpressionTree tree) {
+            return attribution.type(tree) instanceof DeclaredType declared && declared.asElement().getAnnotationMirrors()
+                .stream().anyMatch(each -> each.getAnnotationType().toString().equals("java.lang.FunctionalInterface"));
+        }
+
+        /** Whether it is known what the function does: a lambda, or a method of the sources. */
+        private boolean isAtHand(ExpressionTree tree) {
+            ExpressionTree function = Uses.bare(tree);
+            return function instanceof LambdaExpressionTree || function instanceof MemberReferenceTree reference
+                && program.method(attribution.element(reference)) != null;
+        }
+
+        /** Whether a result can't be a node, nor lead to one, though its type doesn't say so. */
+        private boolean isValue(TypeMirror type) {
+            return type == null || !(type instanceof ArrayType) && !type.toString().equals("java.lang.Object");
+        }
+
+        /** What gives a node has to say so by its type. */
+        @Override
+        public Void visitEnhancedForLoop(EnhancedForLoopTree tree, Void nothing) {
+            Element variable = attribution.element(tree.getVariable());
+            need(!isNodes(tree.getExpression()) || variable != null && mentions(variable.asType(), node));
+            return super.visitEnhancedForLoop(tree, nothing);
+        }
+
+        @Override
+        public Void visitTypeCast(TypeCastTree tree, Void nothing) {
+            need(!isNodes(tree.getExpression()) || isNodes(tree));
+            return super.visitTypeCast(tree, nothing);
+        }
+
+        @Override
+        public Void visitConditionalExpression(ConditionalExpressionTree tree, Void nothing) {
+            need(!isNodes(tree.getTrueExpression()) && !isNodes(tree.getFalseExpression()) || isNodes(tree));
+            return super.visitConditionalExpression(tree, nothing);
         }
 
         private boolean takesNode(JavaMethod method, int k) {
@@ -211,10 +262,14 @@ public final class Nodes {
                 return false;
             }
             Choice choice = ownership.escape().choose(tree.getMethodSelect(), symbol);
-            boolean looks = choice.kind() == Choice.Kind.PURE && !choice.keeps();
+            return choice.kind() == Choice.Kind.PURE && !choice.keeps() || isOnOwn(tree);
+        }
+
+        /** Whether a method is called on a collection of the container that doesn't get out. */
+        private boolean isOnOwn(MethodInvocationTree tree) {
             Element field = tree.getMethodSelect() instanceof MemberSelectTree select
                 ? attribution.element(select.getExpression()) : null;
-            return looks || field instanceof VariableElement variable && field.getKind() == ElementKind.FIELD
+            return field instanceof VariableElement variable && field.getKind() == ElementKind.FIELD
                 && ownership.owns(variable);
         }
 
@@ -256,9 +311,11 @@ public final class Nodes {
             return !ownership.sites().of(method.symbol()).isEmpty();
         }
 
+        /** A function may get nodes, which only the container has to give, and give one to the container's collection. */
         @Override
         public Void visitLambdaExpression(LambdaExpressionTree tree, Void nothing) {
-            need(!(tree.getBody() instanceof ExpressionTree value && isNodes(value)));
+            need(!(tree.getBody() instanceof ExpressionTree value && isNodes(value))
+                || attribution.parent(tree) instanceof MethodInvocationTree call && isOnOwn(call));
             return super.visitLambdaExpression(tree, nothing);
         }
 

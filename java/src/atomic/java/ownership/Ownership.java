@@ -7,15 +7,19 @@ import atomic.java.places.Notes;
 import atomic.java.program.JavaClass;
 import atomic.java.program.JavaMethod;
 import atomic.java.program.Program;
+import com.sun.source.tree.ClassTree;
 import com.sun.source.tree.ConditionalExpressionTree;
 import com.sun.source.tree.ExpressionTree;
+import com.sun.source.tree.LambdaExpressionTree;
 import com.sun.source.tree.MemberSelectTree;
 import com.sun.source.tree.MethodInvocationTree;
 import com.sun.source.tree.NewArrayTree;
 import com.sun.source.tree.NewClassTree;
+import com.sun.source.tree.ReturnTree;
 import com.sun.source.tree.Tree;
 import com.sun.source.tree.TypeCastTree;
 import com.sun.source.tree.VariableTree;
+import com.sun.source.util.TreeScanner;
 import java.util.HashMap;
 import java.util.HashSet;
 import java.util.List;
@@ -40,6 +44,7 @@ public final class Ownership {
     private final Looks looks;
     private final Sites sites;
     private final Map<VariableElement, String> made = new HashMap<>();
+    private final Map<JavaMethod, String> given = new HashMap<>();
     private final Map<VariableElement, Long> escapes = new HashMap<>();
     private final Map<VariableElement, Boolean> owned = new HashMap<>();
     private final Map<Element, VariableElement> confined = new HashMap<>();
@@ -104,6 +109,21 @@ public final class Ownership {
             attribution.parent(making) instanceof MethodInvocationTree call
             && attribution.element(call) instanceof ExecutableElement symbol && program.method(symbol) == null
             && "java.util.Collections.Synchronized".equals(escape.choose(call.getMethodSelect(), symbol).makes()));
+    }
+
+    /** Whether that lock is the one of the object around such an object. */
+    public boolean isWrappedByOuter(JavaClass each) {
+        return each.hasOuterObject() && isWrapped(each) && sites.makings(each).stream().allMatch(making ->
+            attribution.parent(making) instanceof MethodInvocationTree call && call.getArguments().size() == 2
+            && Uses.bare(call.getArguments().get(1)).toString().equals("this") && isDirectlyIn(making, each.outer()));
+    }
+
+    private boolean isDirectlyIn(Tree tree, JavaClass wanted) {
+        Tree each = tree;
+        while (each != null && !(each instanceof ClassTree)) {
+            each = attribution.parent(each);
+        }
+        return each != null && program.find(attribution.element(each)) == wanted;
     }
 
     /** Whether a method only looks at the array in its parameter. */
@@ -177,7 +197,7 @@ public final class Ownership {
             return null;
         } else if (program.method(symbol) != null) {
             return Clones.isMaker(program.method(symbol), sites, program) && Clones.isCopy(call, program, uses)
-                ? "java.lang.Object" : null;
+                ? "java.lang.Object" : returned(program.method(symbol));
         }
         if (Clones.isOwn(call, program)) {
             return Clones.isCopy(call, program, uses) ? "java.lang.Object" : null;
@@ -185,7 +205,9 @@ public final class Ownership {
         boolean copiesArray = symbol.getSimpleName().contentEquals("clone")
             && call.getMethodSelect() instanceof MemberSelectTree select && attribution.type(select.getExpression())
                 .getKind() == javax.lang.model.type.TypeKind.ARRAY;
-        if (copiesArray || symbol.getReturnType().getKind() == javax.lang.model.type.TypeKind.ARRAY
+        boolean constants = symbol.getEnclosingElement().getKind() == ElementKind.ENUM
+            && symbol.getSimpleName().contentEquals("values") && symbol.getParameters().isEmpty();
+        if (copiesArray || constants || symbol.getReturnType().getKind() == javax.lang.model.type.TypeKind.ARRAY
                 && List.of("toCharArray", "getBytes", "split", "toArray").contains(symbol.getSimpleName().toString())
                 && call.getArguments().isEmpty()) {
             return "[]";
@@ -195,6 +217,41 @@ public final class Ownership {
         }
         Choice choice = escape.choose(call.getMethodSelect(), symbol);
         return choice.makes();
+    }
+
+    /** The new array that a method gives at each return, where no other method may run in its place; else null. */
+    private String returned(JavaMethod method) {
+        String known = given.get(method);
+        if (known == null) {
+            given.put(method, UNKNOWN);
+            known = method.tree().getBody() == null || isOverridden(method) ? UNKNOWN : findReturned(method);
+            given.put(method, known);
+        }
+        return known.isEmpty() ? null : known;
+    }
+
+    private boolean isOverridden(JavaMethod method) {
+        return method.isVirtual() && program.named(method.symbol().getSimpleName()).stream().anyMatch(other ->
+            other != method && attribution.elements().overrides(other.symbol(), method.symbol(), other.owner().symbol()));
+    }
+
+    private String findReturned(JavaMethod method) {
+        Set<String> found = new HashSet<>();
+        new TreeScanner<Void, Void>() {
+            @Override
+            public Void scan(Tree tree, Void nothing) {
+                return tree instanceof ClassTree || tree instanceof LambdaExpressionTree ? null : super.scan(tree, nothing);
+            }
+
+            @Override
+            public Void visitReturn(ReturnTree tree, Void nothing) {
+                String one = tree.getExpression() == null ? null : fresh(tree.getExpression());
+                found.add(one == null ? UNKNOWN : one);
+                return super.visitReturn(tree, nothing);
+            }
+        }.scan(method.tree().getBody(), null);
+        found.remove("null");
+        return found.equals(Set.of("[]")) ? "[]" : UNKNOWN;
     }
 
     private String name(TypeMirror type) {

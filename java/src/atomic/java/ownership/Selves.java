@@ -7,13 +7,16 @@ import atomic.java.program.Program;
 import com.sun.source.tree.ClassTree;
 import com.sun.source.tree.IdentifierTree;
 import com.sun.source.tree.LambdaExpressionTree;
+import com.sun.source.tree.MemberReferenceTree;
 import com.sun.source.tree.MemberSelectTree;
 import com.sun.source.tree.MethodInvocationTree;
+import com.sun.source.tree.MethodTree;
 import com.sun.source.tree.NewClassTree;
 import com.sun.source.tree.Tree;
 import com.sun.source.util.TreeScanner;
 import java.util.HashMap;
 import java.util.Map;
+import java.util.function.UnaryOperator;
 import javax.lang.model.element.Element;
 import javax.lang.model.element.ElementKind;
 import javax.lang.model.element.ExecutableElement;
@@ -25,11 +28,18 @@ public final class Selves {
     private final Attribution attribution;
     private final Escape escape;
     private final Map<JavaMethod, Long> known = new HashMap<>();
+    private UnaryOperator<JavaClass> containers = each -> null;
 
     Selves(Program program, Escape escape) {
         this.program = program;
         this.escape = escape;
         attribution = program.attribution();
+    }
+
+    /** From here on it is known which classes are those of a container's nodes. */
+    void nodesAre(UnaryOperator<JavaClass> container) {
+        containers = container;
+        known.clear();
     }
 
     /** Whether the method, or one that overrides it, lets its object get away. */
@@ -146,11 +156,34 @@ public final class Selves {
             if (tree.getClassBody() != null && attribution.element(tree.getClassBody()) != null) {
                 made = program.find(attribution.element(tree.getClassBody()));
             }
-            if (made != null && made.hasOuterObject() && tree.getEnclosingExpression() == null && isWithin(made)) {
+            if (made != null && made.hasOuterObject() && tree.getEnclosingExpression() == null && isWithin(made)
+                    && !(containers.apply(made) == self && onlyKeeps(made))) {
                 leak(tree);
             }
             scan(tree.getArguments(), null);
             return null;
+        }
+
+        /** Whether the making of a node does nothing with the container: no call, no other object, and no name for it. */
+        private boolean onlyKeeps(JavaClass node) {
+            boolean[] keeps = {true};
+            TreeScanner<Void, Void> scanner = new TreeScanner<>() {
+                @Override
+                public Void scan(Tree tree, Void nothing) {
+                    boolean calls = tree instanceof MethodInvocationTree call && !call.getMethodSelect().toString().equals("super");
+                    keeps[0] &= !calls && !(tree instanceof NewClassTree) && !(tree instanceof LambdaExpressionTree)
+                        && !(tree instanceof MemberReferenceTree) && !(tree instanceof MemberSelectTree select
+                        && select.getIdentifier().contentEquals("this"));
+                    return keeps[0] ? super.scan(tree, nothing) : null;
+                }
+            };
+            for (Tree member : node.tree().getMembers()) {
+                boolean runs = !(member instanceof MethodTree method) || method.getReturnType() == null;
+                if (runs && !(member instanceof ClassTree)) {
+                    scanner.scan(member, null);
+                }
+            }
+            return keeps[0];
         }
 
         private boolean isWithin(JavaClass made) {

@@ -29,7 +29,7 @@ public final class Races {
         if (part instanceof Part.Access access && told.add(access.field())) {
             Field field = access.field();
             boolean open = field.guard() == null || field.guard().writesOnly();
-            if (open && field.mayBeGuarded() && field.place() != null) {
+            if (open && field.mayBeGuarded() && !field.ordered() && field.place() != null) {
                 notes.tell(Notes.Kind.DATA_RACE, null, field.place(), text(field));
             }
         }

@@ -17,6 +17,7 @@ public final class Field {
     private boolean used;
     private boolean shared = true;
     private boolean wide;
+    private boolean ordered;
     private boolean ofNodes;
     private boolean contents;
     private Field one;
@@ -83,6 +84,15 @@ public final class Field {
 
     public void leaveUnguarded() {
         shared = false;
+    }
+
+    /** Whether it is volatile, so that accesses of several threads are in an order, and no data race. */
+    public boolean ordered() {
+        return ordered;
+    }
+
+    public void order() {
+        ordered = true;
     }
 
     /** Whether it stands for the contents of what a Java field holds. */

@@ -6,6 +6,7 @@ import atomic.java.library.Library;
 import atomic.java.options.Options;
 import atomic.java.options.Refusal;
 import atomic.java.skeleton.Method;
+import atomic.java.skeleton.Place;
 import com.sun.source.tree.ClassTree;
 import com.sun.source.tree.CompilationUnitTree;
 import com.sun.source.tree.MethodTree;
@@ -15,6 +16,7 @@ import java.nio.file.Files;
 import java.nio.file.Path;
 import java.util.HashSet;
 import java.util.List;
+import java.util.Map;
 import java.util.Set;
 import java.util.function.Predicate;
 import javax.lang.model.element.Element;
@@ -43,13 +45,13 @@ public final class Copies {
         }.scan(unit, null));
     }
 
-    /** Writes them all, and the skeleton that was judged. */
-    public void write(String folder, List<Method> skeleton) {
+    /** Writes them all, and the skeleton that was judged, with the looks that don't count where another place is next. */
+    public void write(String folder, List<Method> skeleton, Map<Place, Place> repeats) {
         try {
             for (CompilationUnitTree unit : attribution.units()) {
                 write(unit, Path.of(folder));
             }
-            Files.write(Path.of(folder, "skeleton.txt"), new SkeletonText(skeleton).lines());
+            Files.write(Path.of(folder, "skeleton.txt"), new SkeletonText(skeleton, repeats).lines());
         } catch (IOException | java.nio.file.InvalidPathException fault) {
             throw new Refusal(Options.CANNOT_WRITE, "cannot write into " + folder);
         }

@@ -23,6 +23,8 @@ import javax.lang.model.type.TypeMirror;
 final class LoggedCalls {
     private static final String TRACE = "atomic.trace.Trace.";
     private static final Set<String> LOCK_CALLS = Set.of("lock", "lockInterruptibly", "tryLock", "unlock");
+    private static final Set<String> ATTEMPTS = Set.of("compareAndSet", "weakCompareAndSetVolatile");
+    private static final Set<String> UPDATES = Set.of("getAndUpdate", "updateAndGet", "getAndAccumulate", "accumulateAndGet");
     private static final String CONDITION = "java.util.concurrent.locks.Condition";
     private final LoggedCopy copy;
     private final Library library;
@@ -40,8 +42,7 @@ final class LoggedCalls {
             return copy.plain(call);
         }
         String name = called.getSimpleName().toString();
-        String owner = called.getEnclosingElement().toString();
-        if (owner.equals("java.lang.Object") && (name.equals("wait") || name.startsWith("notify"))) {
+        if (owner(called).equals("java.lang.Object") && (name.equals("wait") || name.startsWith("notify"))) {
             String object = receiver(call);
             return name.equals("wait") ? TRACE + "await(" + withArguments(object, call) + ")"
                 : TRACE + "wake(" + object + ", " + name.equals("notifyAll") + ")";
@@ -77,17 +78,25 @@ final class LoggedCalls {
         ExpressionTree object = call.getMethodSelect() instanceof MemberSelectTree member ? member.getExpression() : null;
         TypeMirror type = isStatic || object == null ? called.getEnclosingElement().asType() : copy.attribution().type(object);
         Choice choice = type == null ? Choice.UNKNOWN : library.choose(type, name);
-        String kind = kind(choice);
+        boolean attempt = ATTEMPTS.contains(name) && choice.kind() == Choice.Kind.STEP && call.getArguments().size() == 2;
+        boolean looks = name.equals("get") && choice.kind() == Choice.Kind.STEP && call.getArguments().isEmpty();
+        boolean updates = UPDATES.contains(name) && owner(called).startsWith("java.util.concurrent.atomic.");
+        String kind = attempt ? "tries" : looks ? "reads" : updates ? "step" : kind(choice);
         boolean plainObject = object == null || object instanceof IdentifierTree word && word.getName().contentEquals("super");
         String place = copy.at(call) + ", \"" + kind + "\", ";
         if (isStatic || plainObject || kind.isEmpty()) {
             return copy.plain(call.getMethodSelect()) + arguments(call, choice, "");
         }
         List<? extends ExpressionTree> arguments = call.getArguments();
-        boolean last = !arguments.isEmpty() && !isFunction(arguments.get(arguments.size() - 1))
+        boolean last = attempt || !arguments.isEmpty() && !isFunction(arguments.get(arguments.size() - 1))
             && arguments.stream().anyMatch(LoggedCalls::mayStep);
         String through = TRACE + (last ? "on(" : "calling(" + place) + copy.of(object) + ").";
-        return through + name + arguments(call, choice, last ? TRACE + "callingWith(" + place : "");
+        String whole = through + name + arguments(call, choice, last ? TRACE + "callingWith(" + place : "");
+        return attempt ? TRACE + "tried(" + copy.at(call) + ", " + whole + ")" : whole;
+    }
+
+    private static String owner(Element called) {
+        return called.getEnclosingElement().toString();
     }
 
     /** How the log tells the call; nothing where it is no step. */

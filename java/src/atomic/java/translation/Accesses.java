@@ -11,6 +11,7 @@ import atomic.java.skeleton.Path;
 import atomic.java.skeleton.Value;
 import com.sun.source.tree.ArrayAccessTree;
 import com.sun.source.tree.ExpressionTree;
+import com.sun.source.tree.IdentifierTree;
 import com.sun.source.tree.MemberSelectTree;
 import com.sun.source.tree.Tree;
 import javax.lang.model.element.Element;
@@ -48,6 +49,11 @@ final class Accesses {
         return expressions.value(tree.getExpression());
     }
 
+    private static boolean isOwn(Tree at) {
+        return at instanceof IdentifierTree || at instanceof MemberSelectTree select
+            && (select.getExpression().toString().equals("this"));
+    }
+
     /** Reads a field; what it holds. */
     Value read(VariableElement field, Value receiver, Tree at) {
         start(field, at);
@@ -69,7 +75,9 @@ final class Accesses {
         }
         Fields.Home home = services.fields().home(source);
         Value holder = holder(source, home, receiver);
-        if (!settled) {
+        if (body.stable().contains(field) && isOwn(at)) {
+            services.methods().repeats(services.attribution().name(at), services.attribution().name(at));
+        } else if (!settled) {
             access(holder, home.field(), false, at);
         }
         if (owned) {

@@ -9,6 +9,7 @@ import com.sun.source.tree.CompoundAssignmentTree;
 import com.sun.source.tree.ExpressionStatementTree;
 import com.sun.source.tree.ExpressionTree;
 import com.sun.source.tree.IdentifierTree;
+import com.sun.source.tree.LambdaExpressionTree;
 import com.sun.source.tree.LiteralTree;
 import com.sun.source.tree.MemberSelectTree;
 import com.sun.source.tree.MethodInvocationTree;
@@ -70,7 +71,7 @@ record Attempt(MethodInvocationTree look, MethodInvocationTree change, VariableE
     }
 
     /** The variable of a library's class that a call is made on, where its name means the same object each time. */
-    private static Element variable(MethodInvocationTree call, Services services) {
+    static Element variable(MethodInvocationTree call, Services services) {
         ExpressionTree object = ((MemberSelectTree) call.getMethodSelect()).getExpression();
         Element symbol = services.attribution().element(object);
         boolean own = object instanceof IdentifierTree
@@ -116,6 +117,14 @@ record Attempt(MethodInvocationTree look, MethodInvocationTree change, VariableE
         return turn.holds && services.uses().assignments(old).stream().filter(each -> turn.seen.contains(each.tree())
             || before.contains(each.tree()) || before.stream().anyMatch(one -> one
                 instanceof ExpressionStatementTree expression && expression.getExpression() == each.tree())).count() == 1;
+    }
+
+    /** Whether a function only computes a value, and keeps nothing, so that it may as well be called again. */
+    static boolean onlyComputes(LambdaExpressionTree function, Services services) {
+        Turn turn = new Attempt(null, null, null, services).new Turn();
+        turn.scan(function.getParameters(), null);
+        turn.scan(function.getBody(), null);
+        return turn.holds;
     }
 
     /** Looks through what a turn does. */

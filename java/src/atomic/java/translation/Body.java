@@ -29,6 +29,7 @@ final class Body {
     private final Owner owner;
     private final long freshUntil;
     private final Map<VariableElement, Value> locals = new HashMap<>();
+    private Set<VariableElement> stable = Set.of();
     private final Set<String> taken = new HashSet<>();
     private List<Part> sink = new ArrayList<>();
     private int depth;
@@ -66,6 +67,15 @@ final class Body {
 
     Map<VariableElement, Value> locals() {
         return locals;
+    }
+
+    /** The fields that are known to keep their value from here on, so that a look at one is no step. */
+    Set<VariableElement> stable() {
+        return stable;
+    }
+
+    void stable(Set<VariableElement> fields) {
+        stable = fields;
     }
 
     void emit(Part part) {

@@ -50,8 +50,8 @@ final class Calls {
         List<Value> arguments = arguments(method, tree.getArguments());
         invoke(method, receiver, arguments, tree);
         VariableElement field = services.ownership().holding(symbol);
-        return field == null ? Value.OPAQUE
-            : new Accesses(services, body).confined(field, services.attribution().start(tree));
+        return field != null ? new Accesses(services, body).confined(field, services.attribution().start(tree))
+            : "[]".equals(services.ownership().fresh(tree)) ? new Value.Fresh(null) : Value.OPAQUE;
     }
 
     private Value unknown(MethodInvocationTree tree) {

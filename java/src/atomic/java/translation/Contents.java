@@ -7,6 +7,7 @@ import atomic.java.skeleton.Path;
 import atomic.java.skeleton.Value;
 import com.sun.source.tree.ArrayAccessTree;
 import com.sun.source.tree.ExpressionTree;
+import com.sun.source.tree.MemberSelectTree;
 import com.sun.source.tree.MethodInvocationTree;
 import com.sun.source.tree.Tree;
 import javax.lang.model.type.TypeKind;
@@ -52,9 +53,13 @@ final class Contents {
     /** An object that came from outside is anybody's; this one's own part in a library is only not known. */
     private Method.Doubt doubt(Value object, Tree at) {
         boolean own = object.path() != null && object.path().isThis();
-        boolean array = at instanceof MethodInvocationTree call && call.getArguments().stream().anyMatch(each ->
-            services.attribution().type(each) != null && services.attribution().type(each).getKind() == TypeKind.ARRAY);
+        boolean array = at instanceof MethodInvocationTree call && (call.getArguments().stream().anyMatch(this::isArray)
+            || call.getMethodSelect() instanceof MemberSelectTree select && isArray(select.getExpression()));
         return own || array ? Method.Doubt.ANY : Method.Doubt.OPEN;
+    }
+
+    private boolean isArray(ExpressionTree tree) {
+        return services.attribution().type(tree) != null && services.attribution().type(tree).getKind() == TypeKind.ARRAY;
     }
 
     /** Whether it is known whose contents these are; then the access is written. */

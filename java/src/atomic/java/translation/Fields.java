@@ -134,6 +134,9 @@ public final class Fields {
             field.standForContents();
         }
         boolean isVolatile = java.getModifiers().contains(Modifier.VOLATILE);
+        if (isVolatile && !contents) {
+            field.order();
+        }
         if (contents ? isWide(elementType(java)) || program.library().hasContents(elementType(java))
                 : isWide(java.asType()) && !isVolatile) {
             field.widen();
@@ -212,7 +215,7 @@ public final class Fields {
         JavaClass container = nodes.container(node);
         Guards.Lock found = null;
         for (var member : container.symbol().getEnclosedElements()) {
-            if (member instanceof VariableElement field && program.find(elementType(field)) == node) {
+            if (member instanceof VariableElement field && leadsTo(field.asType(), node)) {
                 Guards.Lock one = guards.of(field);
                 if (one == null && !isSettled(field) || one != null && found != null && !found.equals(one)) {
                     return null;
@@ -221,6 +224,15 @@ public final class Fields {
             }
         }
         return found;
+    }
+
+    /** Whether a type is the node's, or an array or a collection of such. */
+    private boolean leadsTo(javax.lang.model.type.TypeMirror type, JavaClass node) {
+        if (type instanceof javax.lang.model.type.ArrayType array) {
+            return leadsTo(array.getComponentType(), node);
+        }
+        return program.find(type) == node || type instanceof javax.lang.model.type.DeclaredType declared
+            && declared.getTypeArguments().stream().anyMatch(each -> leadsTo(each, node));
     }
 
     private static javax.lang.model.type.TypeMirror elementType(VariableElement field) {

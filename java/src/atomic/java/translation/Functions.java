@@ -102,14 +102,14 @@ final class Functions {
 
     /** Writes the functions among the arguments of a call that calls them, any number of times. */
     void callAll(List<? extends ExpressionTree> arguments, Body body, Tree at) {
-        for (ExpressionTree argument : arguments) {
-            ExpressionTree bare = atomic.java.ownership.Uses.bare(argument);
+        for (int k = 0; k < arguments.size(); k++) {
+            ExpressionTree bare = atomic.java.ownership.Uses.bare(arguments.get(k));
             Part part = Part.NOTHING;
             if (bare instanceof LambdaExpressionTree lambda) {
                 part = body.collect(() -> inline(lambda, body));
             } else if (bare instanceof MemberReferenceTree reference) {
                 part = body.collect(() -> new Calls(services, body).reference(reference));
-            } else if (services.program().find(services.attribution().type(bare)) != null) {
+            } else if (services.program().find(services.attribution().type(bare)) != null && isTaken(at, k)) {
                 part = body.collect(() -> new Comparisons(services, body).comparator(bare, at));
             } else if (isFunction(bare) && !isLookedAt(at)) {
                 part = services.step("a function that isn't known", true, bare);
@@ -120,6 +120,16 @@ final class Functions {
                 body.emit(new Part.Repeat(part, services.attribution().place(at)));
             }
         }
+    }
+
+    /** Whether a callee takes an argument as more than any object, such as those of {@code Thread.holdsLock} are. */
+    private boolean isTaken(Tree at, int k) {
+        if (!(services.attribution().element(at) instanceof javax.lang.model.element.ExecutableElement symbol)
+                || symbol.isVarArgs() || k >= symbol.getParameters().size()) {
+            return true;
+        }
+        var type = services.attribution().types().erasure(symbol.getParameters().get(k).asType());
+        return !type.toString().equals("java.lang.Object");
     }
 
     /** Whether a call only looks at a function's object: {@code Objects.requireNonNull} does. */

@@ -129,8 +129,14 @@ final class LibraryCalls {
                 }
             }
             case STEP -> step(called);
-            case COMPOUND -> body.emit(services.doubt(Method.Doubt.OPEN, called.shown(), true, body, called.at(),
-                "compound library call: " + called.shown() + " counts as several steps"));
+            case COMPOUND -> {
+                if (isRetry(called)) {
+                    body.emit(services.step(called.shown(), false, called.at()));
+                    return;
+                }
+                body.emit(services.doubt(Method.Doubt.OPEN, called.shown(), true, body, called.at(),
+                    "compound library call: " + called.shown() + " counts as several steps"));
+            }
             case READS, WRITES, RUN -> new Contents(services, body).call(called.object(),
                 choice.kind() == Choice.Kind.WRITES, called.at(), called.shown());
             default -> unknown(called);
@@ -138,6 +144,12 @@ final class LibraryCalls {
         if (choice.runsFunctions()) {
             services.functions().callAll(called.arguments(), body, called.at());
         }
+    }
+
+    /** Whether a call tries again by itself until nobody came in between, with a function that has no step. */
+    private boolean isRetry(Called called) {
+        return new Attempts(services).isRetry(called) && new Steps(services).of(body.collect(() ->
+            services.functions().callAll(called.arguments(), body, called.at()))).isEmpty();
     }
 
     /** One step; a task that is handed over with it runs in another thread, unless a class at hand may run it here. */

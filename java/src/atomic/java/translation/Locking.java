@@ -123,6 +123,18 @@ final class Locking {
         return alone ? method : null;
     }
 
+    /** Whether an expression means the same lock each time: of a class, or, if not {@code ofClass}, of this object. */
+    boolean isFixed(ExpressionTree tree, boolean ofClass) {
+        if (tree instanceof MemberSelectTree select && select.getIdentifier().contentEquals("class")) {
+            return true;
+        } else if (tree.toString().equals("this")) {
+            return !ofClass;
+        }
+        return isOnOwnObject(tree) && services.attribution().element(tree) instanceof VariableElement field
+            && field.getKind().isField() && services.program().find(field.getEnclosingElement()) != null
+            && services.fields().isSettled(field) && (!ofClass || field.getModifiers().contains(Modifier.STATIC));
+    }
+
     private static boolean isOnOwnObject(ExpressionTree tree) {
         return tree instanceof IdentifierTree
             || tree instanceof MemberSelectTree select && select.getExpression().toString().equals("this");

@@ -21,6 +21,7 @@ import java.util.LinkedHashSet;
 import java.util.List;
 import java.util.Map;
 import java.util.Set;
+import java.util.TreeMap;
 import javax.lang.model.element.Modifier;
 import javax.lang.model.element.VariableElement;
 
@@ -41,6 +42,7 @@ public final class Methods {
     private final Map<Method, Object> origins = new LinkedHashMap<>();
     private final Map<JavaClass, Method> initialisers = new HashMap<>();
     private final Set<Method> alone = new LinkedHashSet<>();
+    private final Map<Place, Place> repeats = new TreeMap<>();
     private final Deque<Runnable> waiting = new ArrayDeque<>();
     private final Deque<Runnable> last = new ArrayDeque<>();
 
@@ -103,6 +105,16 @@ public final class Methods {
     /** A call of what is several steps, and is called {@code shown}. */
     public Part.Call several(String shown, Place place) {
         return services.several(shown, place);
+    }
+
+    /** A look, or an attempt that failed, that is no step where the second place is next; everywhere if that is the same. */
+    void repeats(Place look, Place again) {
+        repeats.put(look, again);
+    }
+
+    /** The places of steps that don't count where another one follows, each with the place of that. */
+    public Map<Place, Place> repeats() {
+        return repeats;
     }
 
     /** A function that is judged by itself. */
@@ -297,6 +309,7 @@ public final class Methods {
         for (String word : services.fields().guards().required(root.symbol())) {
             new Requirements(services).add(word, root, body);
         }
+        new Requirements(services).addWrappers(method, body);
     }
 
     Services services() {

@@ -7,6 +7,7 @@ import com.sun.source.tree.BlockTree;
 import com.sun.source.tree.ExpressionTree;
 import com.sun.source.tree.IfTree;
 import com.sun.source.tree.StatementTree;
+import com.sun.source.tree.SynchronizedTree;
 import com.sun.source.tree.Tree;
 import com.sun.source.tree.TryTree;
 import com.sun.source.tree.UnaryTree;
@@ -48,6 +49,29 @@ final class Regions {
         held(taken(locks), statement, () -> inside(locks, rest.subList(0, length)));
         behind(locks, rest.get(length - 1));
         return length;
+    }
+
+    /**
+     * The statements of the region that these begin with, where a region does nothing else; null where there is none, or,
+     * if it has to stand {@code alone}, something behind it.
+     */
+    List<? extends StatementTree> inside(List<? extends StatementTree> all, boolean alone) {
+        if (!all.isEmpty() && all.get(0) instanceof SynchronizedTree region) {
+            return alone && all.size() > 1 ? null : region.getBlock().getStatements();
+        }
+        List<ExpressionTree> locks = all.size() < 2 || alone && all.size() > 2 ? List.of()
+            : locking.operands(all.get(0), TAKES);
+        return !locks.isEmpty() && all.get(1) instanceof TryTree tried && tried.getResources().isEmpty()
+            && release(locks, tried) == 0 && tried.getFinallyBlock().getStatements().size() == 1
+            ? tried.getBlock().getStatements() : null;
+    }
+
+    /** Whether the region that these begin with has the same lock each time: of a class, or, if not {@code ofClass}, of this. */
+    boolean isFixed(List<? extends StatementTree> all, boolean ofClass) {
+        StatementTree begin = all.stream().filter(each -> !(each instanceof VariableTree)).findFirst().orElseThrow();
+        List<ExpressionTree> locks = begin instanceof SynchronizedTree region
+            ? List.of(Uses.bare(region.getExpression())) : locking.operands(begin, TAKES);
+        return locks.stream().anyMatch(each -> locking.isFixed(each, ofClass));
     }
 
     private List<Locking.Lock> taken(List<ExpressionTree> locks) {

@@ -3,12 +3,17 @@ package atomic.java.translation;
 import atomic.java.places.Notes;
 import atomic.java.program.JavaClass;
 import atomic.java.program.JavaMethod;
+import atomic.java.skeleton.Field;
 import atomic.java.skeleton.Path;
 import atomic.java.skeleton.Value;
+import java.util.Set;
 import javax.lang.model.element.VariableElement;
 
 /** The locks that a method's callers hold, as its annotations name them. */
 final class Requirements {
+    /** What {@code Collections.synchronizedSet} and its like call without their lock. */
+    private static final Set<String> UNLOCKED = Set.of("iterator", "listIterator", "spliterator", "stream",
+        "parallelStream");
     private final Services services;
 
     Requirements(Services services) {
@@ -27,6 +32,21 @@ final class Requirements {
         } else {
             path.fields().forEach(each -> each.use());
             body.target().required().add(path);
+        }
+    }
+
+    /** Adds the lock of the object around, where a library's wrapper holds it at each call of the method from elsewhere. */
+    void addWrappers(JavaMethod method, Body body) {
+        if (method.isConstructor() || method.isStatic() || method.isPrivate() || body.isFresh()
+                || UNLOCKED.contains(method.symbol().getSimpleName().toString())
+                || !services.ownership().isWrappedByOuter(method.owner()) || services.program().classes().stream()
+                    .anyMatch(each -> services.families().above(each) == method.owner())) {
+            return;
+        }
+        Value outer = body.object(method.owner().outer(), 0);
+        if (outer != null && outer.path() != null && outer.path().fields().size() <= Path.MOST_FIELDS) {
+            outer.path().fields().forEach(Field::use);
+            body.target().required().add(outer.path());
         }
     }
 

@@ -4,6 +4,7 @@ import atomic.java.library.Choice;
 import atomic.java.ownership.Uses;
 import atomic.java.program.JavaMethod;
 import atomic.java.skeleton.Part;
+import atomic.java.skeleton.Place;
 import com.sun.source.tree.BlockTree;
 import com.sun.source.tree.DoWhileLoopTree;
 import com.sun.source.tree.ExpressionTree;
@@ -22,7 +23,8 @@ import java.util.List;
  * Loops that try again until nobody else has changed a variable in between, such as
  * {@code do { old = v.get(); next = old + 1; } while (!v.compareAndSet(old, next));}. A turn that fails only looked, nothing
  * of it is kept (see {@link Attempt}), and another one follows. In the turn that succeeds the variable still has the value
- * that was looked at, so the look may as well have been in the same moment: the whole loop is one step.
+ * that was looked at, so the look may as well have been in the same moment: the whole loop is one step. A turn that leaves
+ * the loop without an attempt is the look alone.
  */
 final class Retries {
 
@@ -47,16 +49,19 @@ final class Retries {
         if (attempt == null || Jumps.mayLeave(turn.after()) || !attempt.forgets(turn.before(), turn.after())) {
             return false;
         }
-        List<Part> steps = new ArrayList<>();
-        leaves(body.collect(() -> {
+        List<Part> steps = new Steps(services).of(body.collect(() -> {
             statements.all(turn.before());
             new Expressions(services, body).value(turn.attempt());
             statements.all(turn.after());
-        }), steps);
+        }));
         if (steps.size() != 2 || !isAt(steps.get(0), attempt.look()) || !isAt(steps.get(1), attempt.change())) {
             return false;
         }
-        body.emit(steps.get(1));
+        Place look = services.attribution().name(attempt.look());
+        Place change = services.attribution().name(attempt.change());
+        services.methods().repeats(look, change);
+        services.methods().repeats(change, look);
+        body.emit(Jumps.mayLeave(turn.before()) ? new Part.Either(steps.get(0), steps.get(1)) : steps.get(1));
         if (turn.success() != null) {
             body.emit(new Part.Either(body.collect(() -> statements.one(turn.success())), Part.NOTHING));
         }
@@ -102,20 +107,6 @@ final class Retries {
 
     private boolean isAt(Part step, MethodInvocationTree call) {
         return step instanceof Part.Call made && services.attribution().name(call).equals(made.place());
-    }
-
-    /** What others can see of a part: neither a second name for an object, nor a new one that only keeps values. */
-    private void leaves(Part part, List<Part> found) {
-        boolean idle = part instanceof Part.Local || part instanceof Part.Call call && isMaking(call);
-        if (part.parts().isEmpty() && !part.isNothing() && !idle || part instanceof Part.Region) {
-            found.add(part);
-        }
-        part.parts().forEach(each -> leaves(each, found));
-    }
-
-    private boolean isMaking(Part.Call call) {
-        JavaMethod method = services.methods().judged().get(call.target());
-        return method != null && method.isConstructor();
     }
 
     /** Whether a library's call, or making, only computes a value. */

@@ -25,6 +25,8 @@ import com.sun.source.tree.WhileLoopTree;
 import com.sun.source.tree.YieldTree;
 import com.sun.source.util.SimpleTreeVisitor;
 import java.util.List;
+import java.util.Set;
+import javax.lang.model.element.VariableElement;
 
 /**
  * Writes the steps of statements. A jump is left out: what it skips is then done too, and a path that does more is at least
@@ -47,13 +49,21 @@ final class Statements extends SimpleTreeVisitor<Void, Void> {
         regions = new Regions(services, body, this);
     }
 
-    /** All statements of a block, in order. */
+    /** All statements of a block, in order. What is known of fields at its end is only known within it. */
     void all(List<? extends StatementTree> statements) {
+        Set<VariableElement> stable = body.stable();
+        inOrder(statements);
+        body.stable(stable);
+    }
+
+    private void inOrder(List<? extends StatementTree> statements) {
         for (int k = 0; k < statements.size(); k++) {
             StatementTree statement = statements.get(k);
             List<? extends StatementTree> rest = statements.subList(k + 1, statements.size());
-            int locked = regions.region(statement, rest);
-            if (locked > 0) {
+            int looked = body.depth() > DEEPEST ? 0
+                : new Rechecks(services, body, this, regions).write(statements.subList(k, statements.size()));
+            int locked = looked > 0 ? looked - 1 : regions.region(statement, rest);
+            if (looked > 0 || locked > 0) {
                 k += locked;
             } else if (statement instanceof IfTree branch && branches(branch, rest)) {
                 return;
@@ -226,6 +236,9 @@ final class Statements extends SimpleTreeVisitor<Void, Void> {
 
     @Override
     public Void visitSynchronized(SynchronizedTree tree, Void nothing) {
+        if (new LockPairs(services, body, this).write(tree)) {
+            return null;
+        }
         ExpressionTree operand = Uses.bare(tree.getExpression());
         Locking.Lock lock = new Locking(services, body).lock(operand);
         Value object = operand.getKind() == Tree.Kind.IDENTIFIER ? new Locking(services, body).object(operand) : null;

@@ -1,0 +1,93 @@
+package atomic.java.translation;
+
+import atomic.java.ownership.Uses;
+import atomic.java.skeleton.Part;
+import atomic.java.skeleton.Value;
+import com.sun.source.tree.BinaryTree;
+import com.sun.source.tree.BlockTree;
+import com.sun.source.tree.ConditionalExpressionTree;
+import com.sun.source.tree.ExpressionTree;
+import com.sun.source.tree.StatementTree;
+import com.sun.source.tree.SynchronizedTree;
+import com.sun.source.tree.Tree;
+import com.sun.source.tree.VariableTree;
+import java.util.List;
+import javax.lang.model.element.VariableElement;
+
+/**
+ * Two locks that are taken in an order which is found first: {@code first = c ? a : b; second = first == a ? b : a;
+ * synchronized (first) { synchronized (second) { .. } }}. Whichever comes first, inside both a and b are locked, and
+ * nothing is done between the two, so the locks count under the names a and b.
+ */
+final class LockPairs {
+    private final Services services;
+    private final Body body;
+    private final Statements statements;
+
+    LockPairs(Services services, Body body, Statements statements) {
+        this.services = services;
+        this.body = body;
+        this.statements = statements;
+    }
+
+    /** Writes the two regions, where a statement is such ones; whether they were written. */
+    boolean write(SynchronizedTree outer) {
+        List<? extends StatementTree> inside = outer.getBlock().getStatements();
+        if (inside.size() != 1 || !(inside.get(0) instanceof SynchronizedTree inner)) {
+            return false;
+        }
+        VariableElement one = local(outer.getExpression());
+        VariableElement other = local(inner.getExpression());
+        List<ExpressionTree> pair = one == null || other == null ? List.of() : pair(one, other);
+        pair = pair.isEmpty() && one != null && other != null ? pair(other, one) : pair;
+        if (pair.isEmpty()) {
+            return false;
+        }
+        Value left = new Locking(services, body).object(pair.get(0));
+        Value right = new Locking(services, body).object(pair.get(1));
+        if (left.path() == null || right.path() == null) {
+            return false;
+        }
+        BlockTree block = inner.getBlock();
+        Part held = new Part.Region(right.path(), Part.Mode.EXCLUSIVE, body.collect(() -> statements.one(block)),
+            services.attribution().place(inner));
+        body.emit(new Part.Region(left.path(), Part.Mode.EXCLUSIVE, held, services.attribution().place(outer)));
+        return true;
+    }
+
+    /** The two variables that {@code first} and {@code second} are, whichever is which; none where that isn't sure. */
+    private List<ExpressionTree> pair(VariableElement first, VariableElement second) {
+        if (!(value(first) instanceof ConditionalExpressionTree chosen)
+                || !(value(second) instanceof ConditionalExpressionTree rest)) {
+            return List.of();
+        }
+        ExpressionTree a = Uses.bare(chosen.getTrueExpression());
+        ExpressionTree b = Uses.bare(chosen.getFalseExpression());
+        VariableElement left = local(a);
+        VariableElement right = local(b);
+        if (left == null || right == null || left == right
+                || !(Uses.bare(rest.getCondition()) instanceof BinaryTree compared)) {
+            return List.of();
+        }
+        boolean equal = compared.getKind() == Tree.Kind.EQUAL_TO;
+        VariableElement same = local(compared.getLeftOperand()) == first ? local(compared.getRightOperand())
+            : local(compared.getRightOperand()) == first ? local(compared.getLeftOperand()) : null;
+        VariableElement whereSame = local(equal ? rest.getTrueExpression() : rest.getFalseExpression());
+        VariableElement whereNot = local(equal ? rest.getFalseExpression() : rest.getTrueExpression());
+        boolean sure = (equal || compared.getKind() == Tree.Kind.NOT_EQUAL_TO) && (same == left || same == right)
+            && whereNot == same && whereSame == (same == left ? right : left);
+        return sure ? List.of(a, b) : List.of();
+    }
+
+    /** What a local or parameter is given, once and for all; null elsewhere. */
+    private ExpressionTree value(VariableElement local) {
+        VariableTree tree = services.uses().declaration(local);
+        return tree == null || tree.getInitializer() == null ? null : Uses.bare(tree.getInitializer());
+    }
+
+    /** The local or parameter that an expression names and that keeps its value, or null. */
+    private VariableElement local(ExpressionTree tree) {
+        return services.attribution().element(Uses.bare(tree)) instanceof VariableElement found
+            && !found.getKind().isField() && services.uses().isSettled(found) ? found : null;
+    }
+}
