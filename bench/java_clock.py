@@ -20,7 +20,9 @@ from pathlib import Path
 from java_sources import PROGRAM
 
 PACKAGES = ("java/util/concurrent", "java/util/concurrent/atomic", "java/util/concurrent/locks")
-LARGE = "ArrayDeque HashMap Hashtable IdentityHashMap LinkedHashMap LinkedList Random Stack Timer TreeMap TreeSet Vector"
+LARGE = (
+    "ArrayDeque HashMap Hashtable IdentityHashMap LinkedHashMap LinkedList Random Stack Timer TreeMap TreeSet Vector"
+)
 MODULE = "java.base"
 
 
@@ -66,8 +68,13 @@ def main() -> None:
             for name, words in commands.items():
                 told[name].append(taken(words))
                 clock, processors = told[name][-1]
-                print(f"{name}: {clock:.1f} s by the clock, {processors:.1f} of processors, load {os.getloadavg()[0]:.1f}", flush=True)
-    medians = {name: tuple(map(statistics.median, zip(*each))) for name, each in told.items()}
+                load = os.getloadavg()[0]
+                print(f"{name}: {clock:.1f} s by the clock, {processors:.1f} of processors, load {load:.1f}")
+                sys.stdout.flush()
+    medians = {
+        name: (statistics.median(clock for clock, _ in each), statistics.median(processors for _, processors in each))
+        for name, each in told.items()
+    }
     for name, (clock, processors) in medians.items():
         ratios = f"{clock / medians['javac'][0]:.2f} and {processors / medians['javac'][1]:.2f} times javac's"
         print(f"{name}: medians {clock:.1f} s by the clock, {processors:.1f} of processors: {ratios}")

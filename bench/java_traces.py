@@ -41,8 +41,8 @@ class Counts:
 
 @dataclass(frozen=True)
 class Judged:
-    """A source that was judged: its file, the class that is run, the lines of its errors, its skeleton, and the looks in
-    it that are no step where another place is next."""
+    """A source that was judged: its file, the class that is run, the lines of its errors, its skeleton, and the looks
+    in it that are no step where another place is next."""
 
     path: Path
     name: str
