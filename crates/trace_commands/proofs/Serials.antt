@@ -9,12 +9,12 @@ use Rattle.logs.specs.Walks.{Stand, Stands, front, walked}
 use Rattle.edge.specs.Said.{SaysText}
 use Rattle.trace_commands.specs.Answers.{IsAnswer, serial, no_line, cut_off, refused, open_block}
 use Rattle.trace_commands.specs.Lines.{refused_status}
-use Rattle.trace_commands.specs.Outcomes.{IsOutcome, unread, changed, over, no_guards, judged}
+use Rattle.trace_commands.specs.Outcomes.{IsTraceOutcome, unread, changed, over, no_guards, judged}
 use Rattle.trace_commands.specs.Sentence.{IsSerialFile}
-use Rattle.trace_commands.specs.Words.{IsRow, guards_word}
+use Rattle.trace_commands.specs.Words.{NamesLog, guards_word}
 
 -- words ask for one log
-same_log : (words : List (List ℕ)) (log named : List ℕ) (guards given : Option (List ℕ)) → IsRow words log guards → IsRow words named given → log ≡ named
+same_log : (words : List (List ℕ)) (log named : List ℕ) (guards given : Option (List ℕ)) → NamesLog words log guards → NamesLog words named given → log ≡ named
 same_log words log named None None row other = let both : log ∷ [] ≡ named ∷ [] = sym row ∙ other in cc
 same_log words log named None (Some g) row other = let both : log ∷ [] ≡ named ∷ guards_word ∷ g ∷ [] = sym row ∙ other in cc
 same_log words log named (Some f) None row other = let both : log ∷ guards_word ∷ f ∷ [] ≡ named ∷ [] = sym row ∙ other in cc
@@ -37,7 +37,7 @@ module _ (law : (guard : ℕ → Guard) (text : List ℕ) (s : Stand) → walked
   at_zero guard log told bytes _ _ its (refused n said why leads) e = absurd (no_zero why e)
   at_zero guard log told bytes _ _ its (open_block s thread leads done within) e = absurd (omega (arith, e))
 
-  found_zero : (log : List ℕ) (guards : Option (List ℕ)) (told : List ℕ → Option (List ℕ)) (before now : List ℕ → ℕ) (status : ℕ) (text : List ℕ) → IsOutcome log guards told before now status text → status ≡ 0
+  found_zero : (log : List ℕ) (guards : Option (List ℕ)) (told : List ℕ → Option (List ℕ)) (before now : List ℕ → ℕ) (status : ℕ) (text : List ℕ) → IsTraceOutcome log guards told before now status text → status ≡ 0
       → IsSerialFile (told log)
   found_zero log guards told before now _ _ (unread name named rose) e = absurd (omega (arith, e))
   found_zero log guards told before now _ _ (changed none) e = absurd (omega (arith, e))
@@ -50,7 +50,7 @@ module _ (law : (guard : ℕ → Guard) (text : List ℕ) (s : Stand) → walked
   status_zero status text old new before now result (inr s) zero = absurd (omega (arith, s.0, zero))
 
   pub serial_run : (words : List (List ℕ)) (log named : List ℕ) (guards given : Option (List ℕ)) (told : List ℕ → Option (List ℕ)) (before now : List ℕ → ℕ) (status : ℕ) (text said : List ℕ) (old new : Option (List ℕ)) (sink_before sink_now result : ℕ)
-      → IsRow words log guards → IsRow words named given → IsOutcome named given told before now status text → SaysText result status said old new sink_before sink_now → result ≡ 0 → IsSerialFile (told log)
+      → NamesLog words log guards → NamesLog words named given → IsTraceOutcome named given told before now status text → SaysText result status said old new sink_before sink_now → result ≡ 0 → IsSerialFile (told log)
   serial_run words log named guards given told before now status text said old new sink_before sink_now result row other outcome says zero =
       subst (λ l. IsSerialFile (told l)) (sym (same_log words log named guards given row other))
       (found_zero named given told before now status text outcome (status_zero status said old new sink_before sink_now result says zero))

@@ -20,7 +20,7 @@ use Rattle.trace_commands.specs.declared.answering.Outcome.{Outcome}
 use Rattle.trace_commands.specs.declared.guarding.Guarding.{Guarding}
 use Rattle.trace_commands.specs.declared.guarding.Guarding.TheVariants as guarding
 use Rattle.trace_commands.specs.Lines.{fault_line, no_line_kind, refused_kind, refused_status, open_kind}
-use Rattle.trace_commands.specs.Outcomes.{Answers, IsCounted, IsGuarding, IsGuessed, IsNamed, IsOutcome, judged, longest_file}
+use Rattle.trace_commands.specs.Outcomes.{Answers, IsCountedLog, IsGuarding, IsGuessed, IsNamed, IsTraceOutcome, judged, longest_file}
 use Rattle.trace_commands.proofs.Found.{found_changed, found_unread, found_over}
 use Rattle.trace_commands.proofs.Judging.{flipped, moved, not_told, stopped as has_stopped}
 use Rattle.trace_commands.proofs.TraceCommandsAnswering.{cut_off_answers, no_line_answers, open_answers, refused_answers}
@@ -62,45 +62,45 @@ module _ {E : Type 0} (guard : ℕ → Guard) (log bytes : List ℕ) (s : Stand)
   refused_all (Err e) why end w what is leads ends = tt
 
 counted_ok : (log : List ℕ) (guards : Option (List ℕ)) (told : List ℕ → Option (List ℕ)) (before now : List ℕ → ℕ) (o : Outcome) (guard : ℕ → Guard) (limit many : ℕ) (s : Stand) (many_before : Option ℕ)
-    (read : HasReadWhole guard (told log) limit many s) → IsGuessed (told log) many_before → IsCounted guard log read.bytes many_before many o.status o.text.items → IsOutcome log guards told before now o.status o.text.items
+    (read : HasReadWhole guard (told log) limit many s) → IsGuessed (told log) many_before → IsCountedLog guard log read.bytes many_before many o.status o.text.items → IsTraceOutcome log guards told before now o.status o.text.items
 counted_ok log guards told before now o guard limit many s many_before read guessed (inl is) = found_changed log guards told before now o.status o.text.items (not_told guard (told log) limit many s many_before read guessed is.0) is.1 is.2
 counted_ok log guards told before now o guard limit many s many_before read guessed (inr answers) = judged o.status o.text.items (record { guard = guard; bytes = read.bytes; its = flipped (told log) read.bytes read.its; answers = answers })
 
 module _ {E : Type 0} (log : List ℕ) (guards : Option (List ℕ)) (told : List ℕ → Option (List ℕ)) (before now : List ℕ → ℕ) where
   pub unread_all : (result : Result Outcome E) (name : List ℕ) → IsNamed log guards name → Rose (before name) (now name)
-      → IfOk result (λ o. (o.status ≡ 6) × (o.text.items ≡ cannot_read_line name)) → IfOk result (λ o. IsOutcome log guards told before now o.status o.text.items)
+      → IfOk result (λ o. (o.status ≡ 6) × (o.text.items ≡ cannot_read_line name)) → IfOk result (λ o. IsTraceOutcome log guards told before now o.status o.text.items)
   unread_all (Ok o) name named rose is = found_unread log guards told before now o.status o.text.items name named rose is.0 is.1
   unread_all (Err e) name named rose is = tt
 
   pub over_all : (result : Result Outcome E) (name : List ℕ) → IsNamed log guards name → IfSome (told name) (λ file. longest_file < length file)
-      → IfOk result (λ o. (o.status ≡ 10) × (o.text.items ≡ too_large_line name)) → IfOk result (λ o. IsOutcome log guards told before now o.status o.text.items)
+      → IfOk result (λ o. (o.status ≡ 10) × (o.text.items ≡ too_large_line name)) → IfOk result (λ o. IsTraceOutcome log guards told before now o.status o.text.items)
   over_all (Ok o) name named large is = found_over log guards told before now o.status o.text.items name named large is.0 is.1
   over_all (Err e) name named large is = tt
 
   pub ended_all : (outcome : Result Outcome E) (result : Result Guarding E)
       → MatchResult result (λ g. MatchResult outcome (λ o. g ≡ guarding.Ended o) (λ e. ⊥)) (λ e. IsErr outcome)
-      → IfOk outcome (λ o. IsOutcome log guards told before now o.status o.text.items) → IfOk result (IsGuarding log guards told before now)
+      → IfOk outcome (λ o. IsTraceOutcome log guards told before now o.status o.text.items) → IfOk result (IsGuarding log guards told before now)
   ended_all (Ok o) (Ok g) is found = subst (IsGuarding log guards told before now) (sym is) found
   ended_all (Err e) (Ok g) is found = absurd is
   ended_all (Ok o) (Err e) is found = tt
   ended_all (Err d) (Err e) is found = tt
 
   pub counted_all : (result : Result Outcome E) (guard : ℕ → Guard) (limit many : ℕ) (s : Stand) (many_before : Option ℕ) → HasReadWhole guard (told log) limit many s → IsGuessed (told log) many_before
-      → ((bytes : List ℕ) → walked guard front bytes ≡ Stands s → IfOk result (λ o. IsCounted guard log bytes many_before many o.status o.text.items))
-      → IfOk result (λ o. IsOutcome log guards told before now o.status o.text.items)
+      → ((bytes : List ℕ) → walked guard front bytes ≡ Stands s → IfOk result (λ o. IsCountedLog guard log bytes many_before many o.status o.text.items))
+      → IfOk result (λ o. IsTraceOutcome log guards told before now o.status o.text.items)
   counted_all (Ok o) guard limit many s many_before read guessed counts = counted_ok log guards told before now o guard limit many s many_before read guessed (counts read.bytes read.leads)
   counted_all (Err e) guard limit many s many_before read guessed counts = tt
 
   pub stopped_all : (result : Result Outcome E) (guard : ℕ → Guard) (limit : ℕ) (s : Stand) (read : ReadEnd) (end : WalkEnd) → read ≡ reading.Walk end
       → IsReadEnd guard (told log) limit (before log) (now log) s read
       → ((bytes : List ℕ) (w : WalkedTo) → walked guard front bytes ≡ w → IsEnd s w end → IfOk result (λ o. Answers guard log bytes o.status o.text.items))
-      → IfOk result (λ o. IsOutcome log guards told before now o.status o.text.items)
+      → IfOk result (λ o. IsTraceOutcome log guards told before now o.status o.text.items)
   stopped_all (Ok o) guard limit s read end what ends answers = let is = subst (IsReadEnd guard (told log) limit (before log) (now log) s) what ends in
       judged o.status o.text.items (has_stopped guard s log (told log) end is.0 o.status o.text.items is.1 is.2 answers)
   stopped_all (Err e) guard limit s read end what ends answers = tt
 
   pub moved_all : (result : Result Outcome E) (told_then : List ℕ → Option (List ℕ)) (before_then : List ℕ → ℕ) → ((name : List ℕ) → told_then name ≡ told name) → ((name : List ℕ) → before_then name ≡ before name)
-      → IfOk result (λ o. IsOutcome log guards told_then before_then now o.status o.text.items) → IfOk result (λ o. IsOutcome log guards told before now o.status o.text.items)
+      → IfOk result (λ o. IsTraceOutcome log guards told_then before_then now o.status o.text.items) → IfOk result (λ o. IsTraceOutcome log guards told before now o.status o.text.items)
   moved_all (Ok o) told_then before_then same calm is = moved log guards told told_then before before_then now o.status o.text.items same calm is
   moved_all (Err e) told_then before_then same calm is = tt
 

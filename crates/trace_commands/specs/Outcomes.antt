@@ -26,20 +26,20 @@ pub record Answers (guard : ℕ → Guard) (log bytes : List ℕ) (status : ℕ)
 
 -- what was found of a log: the guards and the bytes by which it was judged, which are the file's where that is told, and the answer, with notes
 -- behind its first line
-pub record IsJudged (log : List ℕ) (told : Option (List ℕ)) (status : ℕ) (text : List ℕ) : Type 0 where
+pub record IsJudgedLog (log : List ℕ) (told : Option (List ℕ)) (status : ℕ) (text : List ℕ) : Type 0 where
   pub guard : ℕ → Guard
   pub bytes : List ℕ
   pub its : IfSome told (λ file. bytes ≡ file)
   pub answers : Answers guard log bytes status text
 
 -- the status and the text that are to be written
-pub data IsOutcome (log : List ℕ) (guards : Option (List ℕ)) (told : List ℕ → Option (List ℕ)) (before now : List ℕ → ℕ) : ℕ → List ℕ → Type 0 where
-  unread : (name : List ℕ) → IsNamed log guards name → Rose (before name) (now name) → IsOutcome log guards told before now 6 (cannot_read_line name)
+pub data IsTraceOutcome (log : List ℕ) (guards : Option (List ℕ)) (told : List ℕ → Option (List ℕ)) (before now : List ℕ → ℕ) : ℕ → List ℕ → Type 0 where
+  unread : (name : List ℕ) → IsNamed log guards name → Rose (before name) (now name) → IsTraceOutcome log guards told before now 6 (cannot_read_line name)
   -- guards were guessed, and when the log was read once more it hadn't the same number of bytes, as of a pipe nothing is left; so its bytes aren't told
-  changed : told log ≡ None → IsOutcome log guards told before now 6 (cannot_read_line log)
-  over : (name : List ℕ) → IsNamed log guards name → IfSome (told name) (λ file. longest_file < length file) → IsOutcome log guards told before now 10 (too_large_line name)
-  no_guards : (name : List ℕ) (line : ℕ) → guards ≡ Some name → IsOutcome log guards told before now 1 (fault_line name line no_guards_kind)
-  judged : (status : ℕ) (text : List ℕ) → IsJudged log (told log) status text → IsOutcome log guards told before now status text
+  changed : told log ≡ None → IsTraceOutcome log guards told before now 6 (cannot_read_line log)
+  over : (name : List ℕ) → IsNamed log guards name → IfSome (told name) (λ file. longest_file < length file) → IsTraceOutcome log guards told before now 10 (too_large_line name)
+  no_guards : (name : List ℕ) (line : ℕ) → guards ≡ Some name → IsTraceOutcome log guards told before now 1 (fault_line name line no_guards_kind)
+  judged : (status : ℕ) (text : List ℕ) → IsJudgedLog log (told log) status text → IsTraceOutcome log guards told before now status text
 
 -- so many bytes were read of a log to guess, where guards were guessed; where the log is told, it has so many
 abbrev pub IsGuessed : (told : Option (List ℕ)) → (many : Option ℕ) → Type 0
@@ -51,17 +51,17 @@ is_some_other None many = false
 is_some_other (Some n) many = not (n == many)
 
 -- the log had another number of bytes before, and it can't be read; or the status and the text belong to it
-abbrev pub IsCounted : (ℕ → Guard) → (log bytes : List ℕ) → (before : Option ℕ) → (many status : ℕ) → (text : List ℕ) → Type 0
-IsCounted guard log bytes before many status text = ((is_some_other before many ≡ true) × (status ≡ 6) × (text ≡ cannot_read_line log)) ⊎ Answers guard log bytes status text
+abbrev pub IsCountedLog : (ℕ → Guard) → (log bytes : List ℕ) → (before : Option ℕ) → (many status : ℕ) → (text : List ℕ) → Type 0
+IsCountedLog guard log bytes before many status text = ((is_some_other before many ≡ true) × (status ≡ 6) × (text ≡ cannot_read_line log)) ⊎ Answers guard log bytes status text
 
 -- what came of looking for guards: guards, and no file's count of faults changed; or how it ended
 abbrev pub IsGuarding : (log : List ℕ) → (guards : Option (List ℕ)) → (told : List ℕ → Option (List ℕ)) → (before now : List ℕ → ℕ) → Guarding → Type 0
 IsGuarding log guards told before now (ends.Guards g many) = ((name : List ℕ) → now name ≡ before name) × IsGuessed (told log) many
-IsGuarding log guards told before now (ends.Ended o) = IsOutcome log guards told before now o.status o.text.items
+IsGuarding log guards told before now (ends.Ended o) = IsTraceOutcome log guards told before now o.status o.text.items
 
 -- a status and a text were found, and said
 pub record SaysOutcome (log : List ℕ) (guards : Option (List ℕ)) (told : List ℕ → Option (List ℕ)) (before now : List ℕ → ℕ) (old new : Option (List ℕ)) (sink_before sink_now result : ℕ) : Type 0 where
   pub status : ℕ
   pub text : List ℕ
-  pub outcome : IsOutcome log guards told before now status text
+  pub outcome : IsTraceOutcome log guards told before now status text
   pub said : SaysText result status text old new sink_before sink_now

@@ -9,7 +9,7 @@ ghost use Rattle.logs.specs.Walks.{Stands, WalkedTo, front, walked};
 ghost use Rattle.logs.specs.Logs.{Guard};
 ghost use Rattle.logs.specs.Views.{guards_data};
 ghost use Rattle.log_reading.specs.Reading.{IsReadEnd};
-ghost use Rattle.trace_commands.specs.Outcomes.{Answers, IsCounted, IsGuessed, is_some_other, IsOutcome, longest_file};
+ghost use Rattle.trace_commands.specs.Outcomes.{Answers, IsCountedLog, IsGuessed, is_some_other, IsTraceOutcome, longest_file};
 
 use crate::lines::{fault_line, open_kind, refused_kind, refused_status};
 use crate::notes::{note_at_end, notes_on};
@@ -147,7 +147,7 @@ fn counted(
     many: u64,
 ) -> Result<Outcome, NoMemory>
     ensures { (guard : ℕ → Guard) (bytes : List ℕ) → walked guard front bytes ≡ Stands (stand_of walk.now) →
-        IfOk result (λ o. IsCounted guard log.now bytes before many o.status o.text.items) }
+        IfOk result (λ o. IsCountedLog guard log.now bytes before many o.status o.text.items) }
 {
     if is_other(before, many) {
         return unread(alloc, log);
@@ -165,7 +165,7 @@ fn unended(
 ) -> Result<Outcome, NoMemory>
     ensures { (asked : Option (List ℕ)) (told : List ℕ → Option (List ℕ)) (before now : List ℕ → ℕ) →
         IsReadEnd (guards_data guards.now) (told log.now) longest_file (before log.now) (now log.now) (stand_of walk.now) end →
-        IfOk result (λ o. IsOutcome log.now asked told before now o.status o.text.items) }
+        IfOk result (λ o. IsTraceOutcome log.now asked told before now o.status o.text.items) }
 {
     match end {
         ReadEnd::Walk(end) => stopped(alloc, log, walk, guards, end),
@@ -185,7 +185,7 @@ fn answered<F: Folder>(
 ) -> Result<Outcome, NoMemory>
     requires guessed { IsGuessed (F.told folder.old log.now) before }
     requires start { stand_of walk.old ≡ front }
-    ensures { (asked : Option (List ℕ)) → IfOk result (λ o. IsOutcome log.now asked (F.told folder.old) (F.faults folder.old) (F.faults folder.new) o.status o.text.items) }
+    ensures { (asked : Option (List ℕ)) → IfOk result (λ o. IsTraceOutcome log.now asked (F.told folder.old) (F.faults folder.old) (F.faults folder.new) o.status o.text.items) }
 {
     match walk_file(alloc, folder, log, LONGEST, guards, walk) {
         Ok(many) => counted(alloc, log, walk, before, many),
@@ -202,7 +202,7 @@ pub fn judged<F: Folder>(
     before: Option<u64>,
 ) -> Result<Outcome, NoMemory>
     requires { IsGuessed (F.told folder.old log.now) before }
-    ensures { (asked : Option (List ℕ)) → IfOk result (λ o. IsOutcome log.now asked (F.told folder.old) (F.faults folder.old) (F.faults folder.new) o.status o.text.items) }
+    ensures { (asked : Option (List ℕ)) → IfOk result (λ o. IsTraceOutcome log.now asked (F.told folder.old) (F.faults folder.old) (F.faults folder.new) o.status o.text.items) }
 {
     let mut walk = Walk::new(alloc);
     answered(alloc, folder, log, guards, before, &mut walk)

@@ -3,9 +3,9 @@ ghost use Rattle.std.specs.Prelude.{◌≡◌, ◌⊎◌, ℕ, List, Option, map
 ghost use Rattle.std.specs.Io.KnownBytes.{Keeps};
 ghost use Rattle.edge.specs.Faults.{Rose};
 ghost use Rattle.edge.specs.Said.{SaysText};
-ghost use Rattle.trace_commands.specs.Outcomes.{IsOutcome, SaysOutcome};
+ghost use Rattle.trace_commands.specs.Outcomes.{IsTraceOutcome, SaysOutcome};
 ghost use Rattle.trace_commands.specs.Sentence.{IsSerialFile};
-ghost use Rattle.trace_commands.specs.Words.{IsRow, IsNoRow, usage_line};
+ghost use Rattle.trace_commands.specs.Words.{NamesLog, NamesNoLog, trace_usage_line};
 
 use crate::answering::{Outcome, judged};
 use crate::guarding::{Guarding, guards_for};
@@ -17,7 +17,7 @@ use std::alloc::{AllocError as NoMemory, Global};
 
 /// Judges the log that is asked for.
 fn perform<F: Folder>(alloc: Global, folder: &mut F, row: &Row<'_>) -> Result<Outcome, NoMemory>
-    ensures { IfOk result (λ o. IsOutcome row.now.log.now (option_map (λ g. g.now) row.now.guards) (F.told folder.old) (F.faults folder.old) (F.faults folder.new)
+    ensures { IfOk result (λ o. IsTraceOutcome row.now.log.now (option_map (λ g. g.now) row.now.guards) (F.told folder.old) (F.faults folder.old) (F.faults folder.new)
         o.status o.text.items) }
 {
     match guards_for(alloc, folder, row) {
@@ -34,19 +34,19 @@ fn perform<F: Folder>(alloc: Global, folder: &mut F, row: &Row<'_>) -> Result<Ou
 /// written; 8, memory was refused; 9, the words ask for nothing; 10, a file is over its limit.
 pub fn run<F: Folder, K: Sink>(alloc: Global, words: &[String], folder: &mut F, sink: &mut K) -> u8
     // Words that ask for nothing: this path takes no memory, so it never answers 8.
-    ensures usage { IsNoRow (map string_bytes words.now) → SaysText result 9 usage_line (K.written sink.old) (K.written sink.new) (K.faults sink.old) (K.faults sink.new) }
-    ensures usage_only { result ≡ 9 → IsNoRow (map string_bytes words.now) }
+    ensures usage { NamesNoLog (map string_bytes words.now) → SaysText result 9 trace_usage_line (K.written sink.old) (K.written sink.new) (K.faults sink.old) (K.faults sink.new) }
+    ensures usage_only { result ≡ 9 → NamesNoLog (map string_bytes words.now) }
 
     // A sink that fails, want of memory.
     ensures cannot_write { result ≡ 7 → Rose (K.faults sink.old) (K.faults sink.new) }
     ensures no_memory { result ≡ 8 → Keeps (K.written sink.old) (K.written sink.new) }
 
     // Else what was found of the log was said, with its status; or a front of it, and the sink failed.
-    ensures outcome { (log : List ℕ) (guards : Option (List ℕ)) → IsRow (map string_bytes words.now) log guards → (result ≡ 8) ⊎
+    ensures outcome { (log : List ℕ) (guards : Option (List ℕ)) → NamesLog (map string_bytes words.now) log guards → (result ≡ 8) ⊎
         SaysOutcome log guards (F.told folder.old) (F.faults folder.old) (F.faults folder.new) (K.written sink.old) (K.written sink.new) (K.faults sink.old) (K.faults sink.new) result }
 
     // The sentence that the program is for, derived from these.
-    ensures serial { (log : List ℕ) (guards : Option (List ℕ)) → IsRow (map string_bytes words.now) log guards → result ≡ 0 → IsSerialFile (F.told folder.old log) }
+    ensures serial { (log : List ℕ) (guards : Option (List ℕ)) → NamesLog (map string_bytes words.now) log guards → result ≡ 0 → IsSerialFile (F.told folder.old log) }
 {
     serial_texts_have_serial_logs();
     let Some(row) = row_of(words) else {

@@ -1,6 +1,6 @@
 //! The words of the command line.
 ghost use Rattle.std.specs.Prelude.{◌≡◌, ◌≢◌, ◌∷◌, [], ℕ, List, map, MatchOption, option_map, string_bytes};
-ghost use Rattle.trace_commands.specs.Words.{IsRow, IsNoRow, guards_word};
+ghost use Rattle.trace_commands.specs.Words.{NamesLog, NamesNoLog, guards_word};
 
 /// What is asked for: a log, and the file of guards where one is given.
 #[derive(Clone, Copy)]
@@ -38,7 +38,7 @@ fn guards_file(words: &[String]) -> Option<&str>
 
 /// What the words ask for.
 pub fn row_of(words: &[String]) -> Option<Row<'_>>
-    ensures { MatchOption result (IsNoRow (map string_bytes words.now)) (λ row. IsRow (map string_bytes words.now) row.log.now (option_map (λ g. g.now) row.guards)) }
+    ensures { MatchOption result (NamesNoLog (map string_bytes words.now)) (λ row. NamesLog (map string_bytes words.now) row.log.now (option_map (λ g. g.now) row.guards)) }
 {
     if let Some(log) = only_word(words) {
         return Some(Row { log, guards: None });
