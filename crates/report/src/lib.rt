@@ -2,14 +2,12 @@
 //! text of the state that one runs to.
 #![tactic(auto)]
 
-mod numbers;
 mod schedules;
 mod source_fault;
 mod states;
 mod values;
 mod verdict;
 
-pub use numbers::write_number;
 pub use schedules::{open_text, schedule_fault_text, stopped_text};
 pub use source_fault::{SourceFault, source_fault_text};
 pub use states::state_text;

@@ -3,7 +3,7 @@
 ghost use Rattle.std.specs.Prelude.{◌≡◌, ◌≢◌, ◌++◌, string_bytes, IfOk, OnOk};
 ghost use Rattle.report.specs.Schedules.{refused_schedule_line, schedule_fault_line, reason_text, stopped_line, inside_call_line};
 
-use crate::numbers::write_number;
+use base::write_number;
 use crate::values::{fault_word, write_address};
 use machine::{StepEnd, Stopped};
 use schedule::SchedFault;

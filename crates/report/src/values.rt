@@ -4,7 +4,7 @@ ghost use Rattle.std.specs.Prelude.{◌≡◌, ◌++◌, string_bytes, OnOk, OnE
 ghost use Rattle.base.specs.Texts.{KeepsText};
 ghost use Rattle.report.specs.States.{address_text, value_text, fault_text};
 
-use crate::numbers::write_number;
+use base::write_number;
 use state::{Address, Fault, Value};
 use std::alloc::AllocError as NoMemory;
 

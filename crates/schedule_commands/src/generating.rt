@@ -13,7 +13,7 @@ ghost use Rattle.schedule_commands.specs.Generate.{GenerateAnswer, group_count, 
 use crate::serialising::order_of;
 use compile::compile;
 use itoa::Integer;
-use report::write_number;
+use base::write_number;
 use schedule::generate;
 use serialise::Rearranged;
 use sources::{Ending, Refusal, Source, judge, read_source};

@@ -8,7 +8,8 @@ ghost use Rattle.schedule_commands.specs.Lines.{result_text, prints_text, entry_
 
 use classes::ClassTable;
 use replay::CallRecord;
-use report::{write_address, write_number, write_title, write_value};
+use base::write_number;
+use report::{write_address, write_title, write_value};
 use state::Value;
 use std::alloc::{AllocError as NoMemory, Global};
 
