@@ -9,30 +9,29 @@ ghost use Rattle.rules.specs.Near.{rel_of};
 ghost use Rattle.rules.specs.Rules.{held_in};
 ghost use Rattle.effects.specs.HeldLists.{held_pairs};
 
+use crate::calls::Called;
 use algebra::has;
-use core_program::{CoreExpr, CoreProgram};
-use paths::{MethodId, Path, Renaming};
+use core_program::CoreProgram;
+use paths::{Path, Renaming};
 use rules::{RelevantSets, renaming_at};
 use std::alloc::{AllocError as NoMemory, Global};
 
-/// The set that a callee begins with at a call on this receiver with these arguments.
+/// The set that a callee begins with at a call.
 pub fn held_under(
     alloc: Global,
     program: &CoreProgram,
     sets: &RelevantSets,
-    receiver: &CoreExpr,
-    callee: MethodId,
-    args: &[CoreExpr],
+    call: &Called<'_>,
     held: &[Path],
 ) -> Result<Vec<Path>, NoMemory>
     ensures { IfOk result (λ known.
         let P = program_of program.now in
-        has_path known.items ≡ held_under (rel_of sets.now callee) (path_of P (expr_of receiver.now)) (paths_of P (exprs_from args.now)) (has_path held.now)) }
+        has_path known.items ≡ held_under (rel_of sets.now call.now.callee) (path_of P (expr_of call.now.receiver.now)) (paths_of P (exprs_from call.now.args.now)) (has_path held.now)) }
 {
     if held.is_empty() {
         return Ok(Vec::new(alloc));
     }
-    let renaming = renaming_at(alloc, program, sets, receiver, callee, args)?;
+    let renaming = renaming_at(alloc, program, sets, call.receiver, call.callee, call.args)?;
     held_pairs(alloc, &renaming, held)
 }
 

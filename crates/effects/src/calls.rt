@@ -37,15 +37,7 @@ pub fn call_effect<A: Assigned>(
         let P = program_of program.now in
         b ≡ call_of P (rel_of sets.now) (A.Assigned.assigned assigned.now) call.now.callee (path_of P (expr_of call.now.receiver.now)) (paths_of P (exprs_from call.now.args.now)) (has_path held.now)) }
 {
-    let known = held_under(
-        alloc,
-        program,
-        sets,
-        call.receiver,
-        call.callee,
-        call.args,
-        held,
-    )?;
+    let known = held_under(alloc, program, sets, call, held)?;
     if has_all(known.as_slice(), required_of(program, call.callee)) {
         Ok(assigned.at(call.callee, known.as_slice()))
     } else {
