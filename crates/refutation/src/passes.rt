@@ -11,14 +11,14 @@ ghost use Rattle.refutation.specs.Ends.{KeptAgrees, IsBlameEnd};
 ghost use Rattle.refutation.specs.Waiting.{AreSettled};
 
 use crate::floors::Floors;
-use crate::judged::Judged;
+use crate::judged::{Asking, Judged};
 use crate::line::Blame;
 use crate::said::Said;
 use crate::waiting::ask_noting;
 use crate::waits::Waits;
 use core_program::CoreProgram;
 use paths::MethodId;
-use rules::{Callers, RelevantSets, callers_of, overriders};
+use rules::{RelevantSets, callers_of, overriders};
 use std::alloc::{AllocError, AllocError as NoMemory, Global};
 
 /// Why there is no certificate.
@@ -45,31 +45,30 @@ impl From<AllocError> for BlameEnd {
 /// wait would add no line.
 fn pass(
     alloc: Global,
-    judged: &Judged<'_>,
-    callers: &[Callers],
+    asking: &Asking<'_>,
     said: &mut Said<'_>,
     waits: &mut Waits,
 ) -> Result<bool, NoMemory>
-    requires few { length (program_of judged.now.program.now).methods ≤ 2 ^ 32 }
-    requires over { AreOverriders (program_of judged.now.program.now) judged.now.over.now }
-    requires callers { AreCallers (program_of judged.now.program.now) (overs_at judged.now.over.now) callers.now }
-    requires rows { length callers.now ≡ length (program_of judged.now.program.now).methods }
-    requires waits { length waits.old ≡ length (program_of judged.now.program.now).methods }
-    requires relevant { AreRelevant (program_of judged.now.program.now) judged.now.sets.now }
-    requires agrees { KeptAgrees (program_of judged.now.program.now) judged.now.sets.now said.old.floors.sets.now said.old.floors.tables.items said.old.lines.items }
-    requires settled { AreSettled (program_of judged.now.program.now) (rel_of judged.now.sets.now) said.old.lines.items waits.old }
-    ensures agrees { OnOk result (KeptAgrees (program_of judged.now.program.now) judged.now.sets.now said.new.floors.sets.now said.new.floors.tables.items said.new.lines.items) }
+    requires few { length (program_of asking.now.judged.now.program.now).methods ≤ 2 ^ 32 }
+    requires over { AreOverriders (program_of asking.now.judged.now.program.now) asking.now.judged.now.over.now }
+    requires callers { AreCallers (program_of asking.now.judged.now.program.now) (overs_at asking.now.judged.now.over.now) asking.now.callers.now }
+    requires rows { length asking.now.callers.now ≡ length (program_of asking.now.judged.now.program.now).methods }
+    requires waits { length waits.old ≡ length (program_of asking.now.judged.now.program.now).methods }
+    requires relevant { AreRelevant (program_of asking.now.judged.now.program.now) asking.now.judged.now.sets.now }
+    requires agrees { KeptAgrees (program_of asking.now.judged.now.program.now) asking.now.judged.now.sets.now said.old.floors.sets.now said.old.floors.tables.items said.old.lines.items }
+    requires settled { AreSettled (program_of asking.now.judged.now.program.now) (rel_of asking.now.judged.now.sets.now) said.old.lines.items waits.old }
+    ensures agrees { OnOk result (KeptAgrees (program_of asking.now.judged.now.program.now) asking.now.judged.now.sets.now said.new.floors.sets.now said.new.floors.tables.items said.new.lines.items) }
     ensures size { length waits.new ≡ length waits.old }
-    ensures settled { IfOk result (λ broken. broken ≡ false → AreSettled (program_of judged.now.program.now) (rel_of judged.now.sets.now) said.new.lines.items waits.new) }
-    ensures passed { IfOk result (λ broken. let P = program_of judged.now.program.now in let rel = rel_of judged.now.sets.now in
+    ensures settled { IfOk result (λ broken. broken ≡ false → AreSettled (program_of asking.now.judged.now.program.now) (rel_of asking.now.judged.now.sets.now) said.new.lines.items waits.new) }
+    ensures passed { IfOk result (λ broken. let P = program_of asking.now.judged.now.program.now in let rel = rel_of asking.now.judged.now.sets.now in
         pass P rel (cells_of P rel) said.old.lines.items ≡ record { all = said.new.lines.items; broken = broken }) }
 {
-    let methods = judged.program.methods();
+    let methods = asking.judged.program.methods();
     let mut place = waits.next(0);
     while place < methods.len() {
         let id = MethodId(place as u32);
         let method = &methods[place];
-        if ask_noting(alloc, judged, callers, said, waits, id, method)? {
+        if ask_noting(alloc, asking, said, waits, id, method)? {
             return Ok(true);
         }
         place = waits.next(place + 1);
@@ -81,27 +80,26 @@ fn pass(
 #[tactic(auto, using(crate::proofs::MakerLemmas::going_none, crate::proofs::MakerLemmas::going_more, crate::proofs::MakerLemmas::room_less, crate::proofs::MakerLemmas::going_broke, crate::proofs::MakerLemmas::going_still))]
 fn passes(
     alloc: Global,
-    judged: &Judged<'_>,
-    callers: &[Callers],
+    asking: &Asking<'_>,
     said: &mut Said<'_>,
     waits: &mut Waits,
 ) -> Result<bool, NoMemory>
-    requires few { length (program_of judged.now.program.now).methods ≤ 2 ^ 32 }
-    requires over { AreOverriders (program_of judged.now.program.now) judged.now.over.now }
-    requires callers { AreCallers (program_of judged.now.program.now) (overs_at judged.now.over.now) callers.now }
-    requires rows { length callers.now ≡ length (program_of judged.now.program.now).methods }
-    requires waits { length waits.old ≡ length (program_of judged.now.program.now).methods }
-    requires relevant { AreRelevant (program_of judged.now.program.now) judged.now.sets.now }
-    requires agrees { KeptAgrees (program_of judged.now.program.now) judged.now.sets.now said.old.floors.sets.now said.old.floors.tables.items said.old.lines.items }
+    requires few { length (program_of asking.now.judged.now.program.now).methods ≤ 2 ^ 32 }
+    requires over { AreOverriders (program_of asking.now.judged.now.program.now) asking.now.judged.now.over.now }
+    requires callers { AreCallers (program_of asking.now.judged.now.program.now) (overs_at asking.now.judged.now.over.now) asking.now.callers.now }
+    requires rows { length asking.now.callers.now ≡ length (program_of asking.now.judged.now.program.now).methods }
+    requires waits { length waits.old ≡ length (program_of asking.now.judged.now.program.now).methods }
+    requires relevant { AreRelevant (program_of asking.now.judged.now.program.now) asking.now.judged.now.sets.now }
+    requires agrees { KeptAgrees (program_of asking.now.judged.now.program.now) asking.now.judged.now.sets.now said.old.floors.sets.now said.old.floors.tables.items said.old.lines.items }
     requires none { said.old.lines.items ≡ [] }
-    requires settled { AreSettled (program_of judged.now.program.now) (rel_of judged.now.sets.now) said.old.lines.items waits.old }
-    ensures agrees { OnOk result (KeptAgrees (program_of judged.now.program.now) judged.now.sets.now said.new.floors.sets.now said.new.floors.tables.items said.new.lines.items) }
-    ensures passes { IfOk result (λ broken. Passes (program_of judged.now.program.now) (rel_of judged.now.sets.now) [] (record { all = said.new.lines.items; broken = broken })) }
+    requires settled { AreSettled (program_of asking.now.judged.now.program.now) (rel_of asking.now.judged.now.sets.now) said.old.lines.items waits.old }
+    ensures agrees { OnOk result (KeptAgrees (program_of asking.now.judged.now.program.now) asking.now.judged.now.sets.now said.new.floors.sets.now said.new.floors.tables.items said.new.lines.items) }
+    ensures passes { IfOk result (λ broken. Passes (program_of asking.now.judged.now.program.now) (rel_of asking.now.judged.now.sets.now) [] (record { all = said.new.lines.items; broken = broken })) }
 {
     'rounds: loop {
         let before = said.lines.len();
         waits.narrow();
-        if pass(alloc, judged, callers, said, waits)? {
+        if pass(alloc, asking, said, waits)? {
             return Ok(true);
         }
         if said.lines.len() == before {
@@ -137,8 +135,12 @@ pub fn blame(alloc: Global, program: &CoreProgram, sets: &RelevantSets) -> Resul
         sets,
         over: &over,
     };
+    let asking = Asking {
+        judged: &judged,
+        callers: callers.as_slice(),
+    };
     let mut said = Said { floors, lines };
-    if passes(alloc, &judged, callers.as_slice(), &mut said, &mut waits)? {
+    if passes(alloc, &asking, &mut said, &mut waits)? {
         Ok(Blame { lines: said.lines })
     } else {
         Err(BlameEnd::Accepted)

@@ -10,7 +10,7 @@ ghost use Rattle.refutation.specs.Passes.{cells_in, subsets_of};
 ghost use Rattle.refutation.specs.Waiting.{AreSettled, AreWoken};
 
 use crate::ask::ask_method;
-use crate::judged::Judged;
+use crate::judged::Asking;
 use crate::said::Said;
 use crate::waits::Waits;
 use core_program::CoreMethod;
@@ -42,29 +42,28 @@ fn callers_at(rows: &[Callers], place: usize) -> &[usize]
 /// that adds a line, the methods that call it wait, and those that it overrides, and it waits itself; else it waits no longer.
 pub(crate) fn ask_noting(
     alloc: Global,
-    judged: &Judged<'_>,
-    callers: &[Callers],
+    asking: &Asking<'_>,
     said: &mut Said<'_>,
     waits: &mut Waits,
     id: MethodId,
     method: &CoreMethod,
 ) -> Result<bool, NoMemory>
-    requires is { slice_get (program_of judged.now.program.now).methods id ≡ Some (method_of method.now) }
-    requires over { AreOverriders (program_of judged.now.program.now) judged.now.over.now }
-    requires callers { AreCallers (program_of judged.now.program.now) (overs_at judged.now.over.now) callers.now }
-    requires rows { length callers.now ≡ length (program_of judged.now.program.now).methods }
-    requires waits { length waits.old ≡ length (program_of judged.now.program.now).methods }
-    requires relevant { AreRelevant (program_of judged.now.program.now) judged.now.sets.now }
-    requires agrees { KeptAgrees (program_of judged.now.program.now) judged.now.sets.now said.old.floors.sets.now said.old.floors.tables.items said.old.lines.items }
-    requires settled { AreSettled (program_of judged.now.program.now) (rel_of judged.now.sets.now) said.old.lines.items waits.old }
-    ensures agrees { OnOk result (KeptAgrees (program_of judged.now.program.now) judged.now.sets.now said.new.floors.sets.now said.new.floors.tables.items said.new.lines.items) }
-    ensures asked { IfOk result (λ broken. let rel = rel_of judged.now.sets.now in
-        IsPass (program_of judged.now.program.now) rel (cells_in id (method_of method.now).requires_ (subsets_of (rel id))) said.old.lines.items said.new.lines.items broken) }
+    requires is { slice_get (program_of asking.now.judged.now.program.now).methods id ≡ Some (method_of method.now) }
+    requires over { AreOverriders (program_of asking.now.judged.now.program.now) asking.now.judged.now.over.now }
+    requires callers { AreCallers (program_of asking.now.judged.now.program.now) (overs_at asking.now.judged.now.over.now) asking.now.callers.now }
+    requires rows { length asking.now.callers.now ≡ length (program_of asking.now.judged.now.program.now).methods }
+    requires waits { length waits.old ≡ length (program_of asking.now.judged.now.program.now).methods }
+    requires relevant { AreRelevant (program_of asking.now.judged.now.program.now) asking.now.judged.now.sets.now }
+    requires agrees { KeptAgrees (program_of asking.now.judged.now.program.now) asking.now.judged.now.sets.now said.old.floors.sets.now said.old.floors.tables.items said.old.lines.items }
+    requires settled { AreSettled (program_of asking.now.judged.now.program.now) (rel_of asking.now.judged.now.sets.now) said.old.lines.items waits.old }
+    ensures agrees { OnOk result (KeptAgrees (program_of asking.now.judged.now.program.now) asking.now.judged.now.sets.now said.new.floors.sets.now said.new.floors.tables.items said.new.lines.items) }
+    ensures asked { IfOk result (λ broken. let rel = rel_of asking.now.judged.now.sets.now in
+        IsPass (program_of asking.now.judged.now.program.now) rel (cells_in id (method_of method.now).requires_ (subsets_of (rel id))) said.old.lines.items said.new.lines.items broken) }
     ensures size { length waits.new ≡ length waits.old }
-    ensures settled { IfOk result (λ broken. broken ≡ false → AreSettled (program_of judged.now.program.now) (rel_of judged.now.sets.now) said.new.lines.items waits.new) }
+    ensures settled { IfOk result (λ broken. broken ≡ false → AreSettled (program_of asking.now.judged.now.program.now) (rel_of asking.now.judged.now.sets.now) said.new.lines.items waits.new) }
 {
     let before = said.lines.len();
-    if ask_method(alloc, judged, said, id, method)? {
+    if ask_method(alloc, asking.judged, said, id, method)? {
         return Ok(true);
     }
     let place = id.0 as usize;
@@ -72,6 +71,6 @@ pub(crate) fn ask_noting(
         waits.sleep(place);
         return Ok(false);
     }
-    wake(waits, callers_at(callers, place));
+    wake(waits, callers_at(asking.callers, place));
     Ok(false)
 }

@@ -11,7 +11,7 @@ use Rattle.refutation.proofs.passes.pass.Goals as goal
 
 pub loop-place-init : goal.loop-place-init
 loop-place-init c =
-    let P = program_of c.args.judged.now.program.now in
+    let P = program_of c.args.asking.now.judged.now.program.now in
     let next = c.next-place.ensures in
     let within : c.next-place.result ≤ length P.methods = omega (arith, next.within, c.requires.waits) in
     record {
@@ -19,17 +19,17 @@ loop-place-init c =
       size = refl;
       settled = c.requires.settled;
       within = within;
-      passed = skip_settled P (rel_of c.args.judged.now.sets.now) c.args.said.now.lines.items c.args.waits.now 0 c.next-place.result c.requires.settled (omega arith) within next.asleep;
+      passed = skip_settled P (rel_of c.args.asking.now.judged.now.sets.now) c.args.said.now.lines.items c.args.waits.now 0 c.next-place.result c.requires.settled (omega arith) within next.asleep;
     }
 
 pub ask_noting-requires-clause-is : goal.ask_noting-requires-clause-is
 ask_noting-requires-clause-is c =
-    found_method c.methods-methods.result.now (program_of c.args.judged.now.program.now).methods c.loop-place.place c.index-methods-place.result c.methods-methods.ensures c.loop-place-test.true c.index-methods-place.is
+    found_method c.methods-methods.result.now (program_of c.args.asking.now.judged.now.program.now).methods c.loop-place.place c.index-methods-place.result c.methods-methods.ensures c.loop-place-test.true c.index-methods-place.is
 
 pub returns-then-branch-clause-passed : goal.returns-then-branch-clause-passed
 returns-then-branch-clause-passed c =
-    let P = program_of c.args.judged.now.program.now in
-    let rel = rel_of c.args.judged.now.sets.now in
+    let P = program_of c.args.asking.now.judged.now.program.now in
+    let rel = rel_of c.args.asking.now.judged.now.sets.now in
     let place = c.loop-place.place in
     let broken : c.in_ok-ask_noting.field-0 ≡ true = search rules in
     c.loop-place.invariant.passed
@@ -39,8 +39,8 @@ returns-then-branch-clause-passed c =
 
 pub loop-place-preserved : goal.loop-place-preserved
 loop-place-preserved c =
-    let P = program_of c.args.judged.now.program.now in
-    let rel = rel_of c.args.judged.now.sets.now in
+    let P = program_of c.args.asking.now.judged.now.program.now in
+    let rel = rel_of c.args.asking.now.judged.now.sets.now in
     let place = c.loop-place.place in
     let before = c.loop-place.invariant in
     let new = c.ask_noting.new.said.lines.items in

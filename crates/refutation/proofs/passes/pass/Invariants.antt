@@ -9,9 +9,9 @@ use Rattle.refutation.proofs.passes.pass.Given as goal
 -- the rest of the pass goes as the whole from the start
 abbrev pub invariant-loop-place : goal.invariant-loop-place
 invariant-loop-place l =
-    let P = program_of l.judged.program.now in let rel = rel_of l.judged.sets.now in
+    let P = program_of l.asking.judged.now.program.now in let rel = rel_of l.asking.judged.now.sets.now in
     record {
-      agrees : KeptAgrees P l.judged.sets.now l.said.floors.sets.now l.said.floors.tables.items l.said.lines.items;
+      agrees : KeptAgrees P l.asking.judged.now.sets.now l.said.floors.sets.now l.said.floors.tables.items l.said.lines.items;
       size : length l.waits ≡ length l.fn.waits;
       settled : AreSettled P rel l.said.lines.items l.waits;
       within : l.place ≤ length P.methods;
@@ -19,4 +19,4 @@ invariant-loop-place l =
     }
 
 abbrev pub decreases-loop-place : goal.decreases-loop-place
-decreases-loop-place l = length (program_of l.judged.program.now).methods - l.place
+decreases-loop-place l = length (program_of l.asking.judged.now.program.now).methods - l.place

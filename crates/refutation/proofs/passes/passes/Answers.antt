@@ -6,12 +6,12 @@ use Rattle.refutation.proofs.MakerLemmas.{going_none, going_more, room_less}
 use Rattle.refutation.proofs.passes.passes.Goals as goal
 
 pub rounds-init : goal.rounds-init
-rounds-init c = record { agrees = c.requires.agrees; size = c.requires.waits; settled = c.requires.settled; going = going_none (program_of c.args.judged.now.program.now) (rel_of c.args.judged.now.sets.now) c.args.said.now.lines.items c.requires.none }
+rounds-init c = record { agrees = c.requires.agrees; size = c.requires.waits; settled = c.requires.settled; going = going_none (program_of c.args.asking.now.judged.now.program.now) (rel_of c.args.asking.now.judged.now.sets.now) c.args.said.now.lines.items c.requires.none }
 
 pub rounds-smaller : goal.rounds-smaller
 rounds-smaller c =
     let kept : c.in_ok-pass.field-0 ≡ false = search rules in
-    room_less (program_of c.args.judged.now.program.now) (rel_of c.args.judged.now.sets.now) c.rounds.said.lines.items c.pass.new.said.lines.items c.in_ok-pass.field-0 c.rounds.invariant.going c.in_ok-pass.ensures.passed kept
+    room_less (program_of c.args.asking.now.judged.now.program.now) (rel_of c.args.asking.now.judged.now.sets.now) c.rounds.said.lines.items c.pass.new.said.lines.items c.in_ok-pass.field-0 c.rounds.invariant.going c.in_ok-pass.ensures.passed kept
     (λ e. c.if-len-before.false (omega (arith, e, c.len.ensures, c.len-before.ensures, c.pass.new.said.lines.ok, c.rounds.said.lines.ok)))
 
 pub rounds-preserved : goal.rounds-preserved
@@ -21,6 +21,6 @@ rounds-preserved c =
       agrees = c.in_ok-pass.ensures.agrees;
       size = c.pass.ensures.size ∙ ap length c.narrow.ensures ∙ c.rounds.invariant.size;
       settled = c.in_ok-pass.ensures.settled kept;
-      going = going_more (program_of c.args.judged.now.program.now) (rel_of c.args.judged.now.sets.now) c.rounds.said.lines.items c.pass.new.said.lines.items c.in_ok-pass.field-0 c.rounds.invariant.going c.in_ok-pass.ensures.passed kept
+      going = going_more (program_of c.args.asking.now.judged.now.program.now) (rel_of c.args.asking.now.judged.now.sets.now) c.rounds.said.lines.items c.pass.new.said.lines.items c.in_ok-pass.field-0 c.rounds.invariant.going c.in_ok-pass.ensures.passed kept
           (λ e. c.if-len-before.false (omega (arith, e, c.len.ensures, c.len-before.ensures, c.pass.new.said.lines.ok, c.rounds.said.lines.ok)));
     }

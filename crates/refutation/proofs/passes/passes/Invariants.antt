@@ -10,14 +10,14 @@ use Rattle.refutation.proofs.passes.passes.Given as goal
 -- the passes from here end as those from no lines
 abbrev pub invariant-rounds : goal.invariant-rounds
 invariant-rounds l =
-    let P = program_of l.judged.program.now in
+    let P = program_of l.asking.judged.now.program.now in
     record {
-      agrees : KeptAgrees P l.judged.sets.now l.said.floors.sets.now l.said.floors.tables.items l.said.lines.items;
+      agrees : KeptAgrees P l.asking.judged.now.sets.now l.said.floors.sets.now l.said.floors.tables.items l.said.lines.items;
       size : length l.waits ≡ length P.methods;
-      settled : AreSettled P (rel_of l.judged.sets.now) l.said.lines.items l.waits;
-      going : IsGoing P (rel_of l.judged.sets.now) l.said.lines.items;
+      settled : AreSettled P (rel_of l.asking.judged.now.sets.now) l.said.lines.items l.waits;
+      going : IsGoing P (rel_of l.asking.judged.now.sets.now) l.said.lines.items;
     }
 
 -- how often the floor can still rise
 abbrev pub decreases-rounds : goal.decreases-rounds
-decreases-rounds l = let P = program_of l.judged.program.now in room P (rel_of l.judged.sets.now) (cells_of P (rel_of l.judged.sets.now)) l.said.lines.items
+decreases-rounds l = let P = program_of l.asking.judged.now.program.now in room P (rel_of l.asking.judged.now.sets.now) (cells_of P (rel_of l.asking.judged.now.sets.now)) l.said.lines.items

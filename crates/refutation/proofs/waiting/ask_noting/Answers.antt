@@ -12,8 +12,8 @@ use Rattle.refutation.proofs.waiting.ask_noting.Goals as goal
 
 pub returns-then-len-before-clause-settled : goal.returns-then-len-before-clause-settled
 returns-then-len-before-clause-settled c =
-    let P = program_of c.args.judged.now.program.now in
-    let rel = rel_of c.args.judged.now.sets.now in
+    let P = program_of c.args.asking.now.judged.now.program.now in
+    let rel = rel_of c.args.asking.now.judged.now.sets.now in
     let m = c.args.id in
     let method = method_of c.args.method.now in
     let old = c.args.said.now.lines.items in
@@ -26,9 +26,9 @@ returns-then-len-before-clause-settled c =
 
 pub returns-clause-settled : goal.returns-clause-settled
 returns-clause-settled c =
-    let P = program_of c.args.judged.now.program.now in
-    let rel = rel_of c.args.judged.now.sets.now in
+    let P = program_of c.args.asking.now.judged.now.program.now in
+    let rel = rel_of c.args.asking.now.judged.now.sets.now in
     let m = c.args.id in
     let below = slice_get_within P.methods m (method_of c.args.method.now) c.requires.is in
-    λ e. settled_woken P rel c.args.judged.now.over.now c.requires.over c.args.callers.now m c.args.said.now.lines.items c.ask_method.new.said.lines.items c.args.waits.now c.wake.new.waits c.callers_at.result.now
-    c.requires.callers (omega (arith, below, c.requires.rows)) (c.callers_at.ensures ∙ ap (callers_of_method c.args.callers.now) c.id.view_is) c.requires.settled c.in_ok-ask_method.ensures.adds c.wake.ensures.woken
+    λ e. settled_woken P rel c.args.asking.now.judged.now.over.now c.requires.over c.args.asking.now.callers.now m c.args.said.now.lines.items c.ask_method.new.said.lines.items c.args.waits.now c.wake.new.waits c.callers_at.result.now
+    c.requires.callers (omega (arith, below, c.requires.rows)) (c.callers_at.ensures ∙ ap (callers_of_method c.args.asking.now.callers.now) c.id.view_is) c.requires.settled c.in_ok-ask_method.ensures.adds c.wake.ensures.woken
