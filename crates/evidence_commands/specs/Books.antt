@@ -4,18 +4,15 @@ use Rattle.books.specs.declared.stop.BookFault.{BookFault}
 use Rattle.books.specs.declared.stop.BookFault.TheVariants as faults
 use Rattle.evidence_commands.specs.declared.book_lines.WrongKind.{WrongKind}
 use Rattle.evidence_commands.specs.declared.book_lines.WrongKind.TheVariants as kinds
-
--- `book refused at byte N: KIND`
-abbrev pub refused_book_line : ℕ → List ℕ → List ℕ
-refused_book_line place kind = codes "book refused at byte " ++ decimal place ++ codes ": " ++ kind ++ codes "\n"
+use Rattle.report.specs.Refused.{refused_at_line}
 
 -- the line for a text that goes wrong at this byte
 abbrev pub book_form_line : ℕ → List ℕ
-book_form_line place = refused_book_line place (codes "form")
+book_form_line place = refused_at_line (codes "book") place (codes "form")
 
 -- the line for a text with its 65th open bracket at this byte
 abbrev pub too_deep_book_line : ℕ → List ℕ
-too_deep_book_line place = refused_book_line place (codes "too deep")
+too_deep_book_line place = refused_at_line (codes "book") place (codes "too deep")
 
 -- the line for a fault; none for want of memory
 abbrev pub book_fault_line : BookFault → List ℕ

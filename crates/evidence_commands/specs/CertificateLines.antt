@@ -2,6 +2,7 @@
 use Rattle.std.specs.Prelude.{ℕ, List, ◌++◌, codes, decimal}
 use Rattle.refutation.specs.declared.check.BlameWrong.{BlameWrong}
 use Rattle.refutation.specs.declared.check.BlameWrong.TheVariants as wrong
+use Rattle.report.specs.Refused.{refused_at_line}
 
 -- there is no certificate, since the source is accepted
 abbrev pub nothing_line : List ℕ
@@ -13,7 +14,7 @@ verified_certificate_line = codes "refusal verified\n"
 
 -- the text goes wrong at this byte
 abbrev pub certificate_form_line : ℕ → List ℕ
-certificate_form_line place = codes "blame refused at byte " ++ decimal place ++ codes ": form\n"
+certificate_form_line place = refused_at_line (codes "blame") place (codes "form")
 
 -- a line of the certificate is wrong
 abbrev pub line_line : ℕ → List ℕ → List ℕ

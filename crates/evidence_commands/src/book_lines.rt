@@ -1,10 +1,11 @@
 //! The lines for books that are refused.
 
 ghost use Rattle.std.specs.Prelude.{◌≡◌, ◌≢◌, ◌++◌, is_some, string_bytes, IfOk, OnOk};
-ghost use Rattle.evidence_commands.specs.Books.{refused_book_line, book_fault_line, names_node, at_node, kind_text, wrong_book_line};
+ghost use Rattle.evidence_commands.specs.Books.{book_fault_line, names_node, at_node, kind_text, wrong_book_line};
 
 use base::write_number;
 use books::BookFault;
+use report::refused_at_text;
 use std::alloc::{AllocError as NoMemory, Global};
 
 /// What is wrong with a book for a program.
@@ -22,26 +23,14 @@ pub enum WrongKind {
     Override,
 }
 
-/// The line for a text that is no book, at this byte.
-fn refused_line(alloc: Global, place: u32, kind: &str) -> Result<String, NoMemory>
-    ensures { IfOk result (λ line. string_bytes line ≡ refused_book_line place kind.now) }
-{
-    let mut line = String::from_str(alloc, "book refused at byte ")?;
-    write_number(&mut line, place)?;
-    line.push_str(": ")?;
-    line.push_str(kind)?;
-    line.push_str("\n")?;
-    Ok(line)
-}
-
 /// The line for the first fault of a text that is no book. Its place counts bytes from 0.
 pub fn book_fault_text(alloc: Global, fault: &BookFault) -> Result<String, NoMemory>
     requires { fault.now ≢ BookFault.NoMemory }
     ensures { IfOk result (λ line. string_bytes line ≡ book_fault_line fault.now) }
 {
     match fault {
-        BookFault::Form(place) => refused_line(alloc, *place, "form"),
-        BookFault::TooDeep(place) => refused_line(alloc, *place, "too deep"),
+        BookFault::Form(place) => refused_at_text(alloc, "book", *place, "form"),
+        BookFault::TooDeep(place) => refused_at_text(alloc, "book", *place, "too deep"),
         BookFault::NoMemory => Err(NoMemory),
     }
 }

@@ -1,21 +1,11 @@
 //! The lines of `blame` and `verify-blame`.
 ghost use Rattle.std.specs.Prelude.{◌≡◌, ◌≢◌, string_bytes, IfOk};
 ghost use Rattle.refutation.specs.declared.check.BlameWrong.TheVariants as wrongs;
-ghost use Rattle.evidence_commands.specs.CertificateLines.{certificate_form_line, line_line, wrong_certificate_line};
+ghost use Rattle.evidence_commands.specs.CertificateLines.{line_line, wrong_certificate_line};
 
 use base::write_number;
 use refutation::BlameWrong;
 use std::alloc::{AllocError as NoMemory, Global};
-
-/// The line for a text that goes wrong at this byte.
-pub(crate) fn form_text(alloc: Global, place: u32) -> Result<String, NoMemory>
-    ensures { IfOk result (λ line. string_bytes line ≡ certificate_form_line place) }
-{
-    let mut line = String::from_str(alloc, "blame refused at byte ")?;
-    write_number(&mut line, place)?;
-    line.push_str(": form\n")?;
-    Ok(line)
-}
 
 /// The line for a line of a certificate that is wrong, counted from 1.
 fn line_text(alloc: Global, number: u32, kind: &str) -> Result<String, NoMemory>

@@ -3,13 +3,13 @@
 ghost use Rattle.std.specs.Prelude.{◌≡◌, ◌≢◌, [], option_map, string_bytes, unwrap_or, IfOk};
 ghost use Rattle.classes.specs.Views.{table_data};
 ghost use Rattle.report.specs.States.{class_text};
-ghost use Rattle.evidence_commands.specs.LevelLines.{refused_at_line, refused_class_line, levels_fault_line, takes_line};
+ghost use Rattle.evidence_commands.specs.LevelLines.{refused_class_line, levels_fault_line, takes_line};
 
 use base::write_number;
 use classes::ClassTable;
 use level_check::LevelsFault;
 use paths::{ClassId, MethodId};
-use report::write_title;
+use report::{refused_at_text, write_title};
 use std::alloc::{AllocError as NoMemory, Global};
 
 /// The name, or nothing where there is none.
@@ -24,18 +24,6 @@ fn class_name<'t>(table: &'t ClassTable<'_>, class: ClassId) -> &'t str
     ensures { result.now ≡ class_text (table_data table.now) class }
 {
     name_or_nothing(table.class_name(class))
-}
-
-/// The line for a text that goes wrong at this byte.
-fn refused_at(alloc: Global, place: u32, kind: &str) -> Result<String, NoMemory>
-    ensures { IfOk result (λ line. string_bytes line ≡ refused_at_line place kind.now) }
-{
-    let mut line = String::from_str(alloc, "levels refused at byte ")?;
-    write_number(&mut line, place)?;
-    line.push_str(": ")?;
-    line.push_str(kind)?;
-    line.push_str("\n")?;
-    Ok(line)
 }
 
 /// The line for a class whose level is wrong.
@@ -64,9 +52,9 @@ pub(crate) fn fault_text(
     ensures { IfOk result (λ line. (fault ≢ LevelsFault.NoMemory) × (string_bytes line ≡ levels_fault_line (table_data table.now) fault)) }
 {
     match fault {
-        LevelsFault::Form(place) => refused_at(alloc, place, "form"),
-        LevelsFault::Unknown(place) => refused_at(alloc, place, "unknown"),
-        LevelsFault::Twice(place) => refused_at(alloc, place, "twice"),
+        LevelsFault::Form(place) => refused_at_text(alloc, "levels", place, "form"),
+        LevelsFault::Unknown(place) => refused_at_text(alloc, "levels", place, "unknown"),
+        LevelsFault::Twice(place) => refused_at_text(alloc, "levels", place, "twice"),
         LevelsFault::Missing(class) => refused_class(alloc, table, class, "has none"),
         LevelsFault::Unequal(class) => refused_class(alloc, table, class, "differs"),
         LevelsFault::NoMemory => Err(NoMemory),

@@ -9,8 +9,9 @@ ghost use Rattle.evidence_commands.specs.CertificateLines.{verified_certificate_
 ghost use Rattle.evidence_commands.specs.RefusedCertificates.{IsFaultLine};
 ghost use Rattle.evidence_commands.specs.Verifying.{VerifyBlameAnswer};
 
-use crate::certificate_lines::{form_text, wrong_text};
+use crate::certificate_lines::wrong_text;
 use refutation::{Blame, BlameFault, check_blame, read_blame};
+use report::refused_at_text;
 use sources::{Ending, Refusal, Source, read_source};
 use std::alloc::{AllocError as NoMemory, Global};
 use std::mem::forget;
@@ -23,7 +24,7 @@ fn fault_line(alloc: Global, fault: BlameFault) -> Result<String, NoMemory>
     ensures { IfOk result (λ line. IsFaultLine fault (string_bytes line)) }
 {
     match fault {
-        BlameFault::Form(place) => form_text(alloc, place),
+        BlameFault::Form(place) => refused_at_text(alloc, "blame", place, "form"),
         BlameFault::NoMemory => Err(NoMemory),
     }
 }

@@ -5,19 +5,16 @@ use Rattle.schedule.specs.declared.reader.SchedFault.TheVariants as schedule
 use Rattle.machine.specs.declared.deed.StepEnd.{StepEnd}
 use Rattle.machine.specs.declared.deed.StepEnd.TheVariants as ends
 use Rattle.machine.specs.declared.machine.Stopped.{Stopped}
+use Rattle.report.specs.Refused.{refused_at_line}
 use Rattle.report.specs.States.{address_text, fault_text}
-
--- `schedule refused at byte N: KIND`
-abbrev pub refused_schedule_line : ℕ → List ℕ → List ℕ
-refused_schedule_line place kind = codes "schedule refused at byte " ++ decimal place ++ codes ": " ++ kind ++ codes "\n"
 
 -- the line for a text that goes wrong at this byte
 abbrev pub schedule_form_line : ℕ → List ℕ
-schedule_form_line place = refused_schedule_line place (codes "form")
+schedule_form_line place = refused_at_line (codes "schedule") place (codes "form")
 
 -- the line for a text of which the entry at this byte makes the schedule too long
 abbrev pub too_long_line : ℕ → List ℕ
-too_long_line place = refused_schedule_line place (codes "too long")
+too_long_line place = refused_at_line (codes "schedule") place (codes "too long")
 
 -- the line for a fault; none for want of memory
 abbrev pub schedule_fault_line : SchedFault → List ℕ

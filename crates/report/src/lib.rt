@@ -2,12 +2,14 @@
 //! text of the state that one runs to.
 #![tactic(auto)]
 
+mod refused;
 mod schedules;
 mod source_fault;
 mod states;
 mod values;
 mod verdict;
 
+pub use refused::refused_at_text;
 pub use schedules::{open_text, schedule_fault_text, stopped_text};
 pub use source_fault::{SourceFault, source_fault_text};
 pub use states::state_text;

@@ -1,25 +1,14 @@
 //! The lines for schedules that are refused.
 
 ghost use Rattle.std.specs.Prelude.{◌≡◌, ◌≢◌, ◌++◌, string_bytes, IfOk, OnOk};
-ghost use Rattle.report.specs.Schedules.{refused_schedule_line, schedule_fault_line, reason_text, stopped_line, inside_call_line};
+ghost use Rattle.report.specs.Schedules.{schedule_fault_line, reason_text, stopped_line, inside_call_line};
 
-use base::write_number;
+use crate::refused::refused_at_text;
 use crate::values::{fault_word, write_address};
+use base::write_number;
 use machine::{StepEnd, Stopped};
 use schedule::SchedFault;
 use std::alloc::{AllocError as NoMemory, Global};
-
-/// The line for a text that is no schedule, at this byte.
-fn refused_line(alloc: Global, place: u32, kind: &str) -> Result<String, NoMemory>
-    ensures { IfOk result (λ line. string_bytes line ≡ refused_schedule_line place kind.now) }
-{
-    let mut line = String::from_str(alloc, "schedule refused at byte ")?;
-    write_number(&mut line, place)?;
-    line.push_str(": ")?;
-    line.push_str(kind)?;
-    line.push_str("\n")?;
-    Ok(line)
-}
 
 /// The line for the first fault of a text that is no schedule. Its place counts bytes from 0.
 pub fn schedule_fault_text(alloc: Global, fault: &SchedFault) -> Result<String, NoMemory>
@@ -27,8 +16,8 @@ pub fn schedule_fault_text(alloc: Global, fault: &SchedFault) -> Result<String, 
     ensures { IfOk result (λ line. string_bytes line ≡ schedule_fault_line fault.now) }
 {
     match fault {
-        SchedFault::Form(place) => refused_line(alloc, *place, "form"),
-        SchedFault::TooLong(place) => refused_line(alloc, *place, "too long"),
+        SchedFault::Form(place) => refused_at_text(alloc, "schedule", *place, "form"),
+        SchedFault::TooLong(place) => refused_at_text(alloc, "schedule", *place, "too long"),
         SchedFault::NoMemory => Err(NoMemory),
     }
 }
