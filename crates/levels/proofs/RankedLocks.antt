@@ -27,7 +27,7 @@ use Rattle.state.specs.Work as W
 use Rattle.state.specs.Work.{Item, St, Act}
 use Rattle.state.specs.States.{Frame}
 use Rattle.semantics.specs.Locking.{taken_again, given_back}
-use Rattle.semantics.specs.Step.{Shared, object_class, run_of, faults, takes, take_held, take, acquire, release_held, release}
+use Rattle.semantics.specs.Step.{Shared, faults, takes, take_held, take, acquire, release_held, release}
 use Rattle.semantics.proofs.Changed.{same_address, address_itself}
 use Rattle.reduction.specs.Leads.{Env, env_of, machine_memory, next_value, lead_from, lead, Paths, LeadsTo, top_path}
 use Rattle.reduction.specs.Fits.{Fresh, TidyS, stores, has_release, count_release, awaited}

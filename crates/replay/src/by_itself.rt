@@ -4,7 +4,7 @@ ghost use Rattle.core_program.specs.Views.{program_of, method_of};
 ghost use Rattle.state.specs.declared.value.Value.{Value};
 ghost use Rattle.replay.specs.Plain as plain;
 ghost use Rattle.replay.specs.Answers.{Gives, ended_value};
-ghost use Rattle.replay.specs.Evaluation.{call_method, asked_body, evaluate};
+ghost use Rattle.replay.specs.Evaluation.{asked_body, evaluate};
 ghost use Rattle.replay.specs.Ends.{IsEvaluationEnd};
 
 use crate::effects::fresh_slots;

@@ -1,7 +1,7 @@
 -- Pairs whose first numbers ascend: each is the one that is found by its first number.
 use Rattle.std.proofs.Common.{◌≡◌, ℕ, zero, suc, true, ◌==◌, ◌<◌, List, [], ◌∷◌, Some, refl, subst, ◌∙◌, arith}
 use Rattle.std.specs.Prelude.{nat_lt, slice_get}
-use Rattle.std.proofs.lemmas.Bool.{and_parts, cond-true, cond-false, eq-eqb, ltb-true, ne_eqb}
+use Rattle.std.proofs.lemmas.Bool.{and_parts, cond-true, cond-false, eqb-true, eq-eqb, ltb-true, ne_eqb}
 use Rattle.std.proofs.lemmas.Option.{none-some, same_Some}
 use Rattle.core_program.specs.Core.{Program}
 use Rattle.core_program.specs.Dispatch.{partner, target_of, targets_in}
@@ -31,3 +31,7 @@ own_partner (q ∷ ps) (suc k) p a at =
 -- a pair of a class says which method runs
 pub known_target : (P : Program) (class : ℕ) (ps : List (ℕ × ℕ)) (k : ℕ) (p : ℕ × ℕ) → ps ≡ targets_in (slice_get P.classes class) → ascend ps ≡ true → slice_get ps k ≡ Some p → target_of P class p.0 ≡ Some p.1
 known_target P class ps k p is a at = subst (λ qs. partner qs p.0 ≡ Some p.1) is (own_partner ps k p a at)
+
+-- the pair at a place, where it is a pair of the method
+pub found_partner : (ps : List (ℕ × ℕ)) (k : ℕ) (p : ℕ × ℕ) (m : ℕ) → slice_get ps k ≡ Some p → (p.0 == m) ≡ true → ascend ps ≡ true → partner ps m ≡ Some p.1
+found_partner ps k p m at same a = subst (λ n. partner ps n ≡ Some p.1) (eqb-true p.0 m same) (own_partner ps k p a at)

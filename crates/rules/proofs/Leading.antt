@@ -1,21 +1,21 @@
 -- The rows of nearest methods have methods that override alone, and lead to all of them.
-use Rattle.std.proofs.Common.{◌≡◌, ◌≢◌, ℕ, zero, suc, ◌+◌, ◌-◌, Bool, true, false, not, ◌==◌, ◌&&◌, ◌<◌, ◌≤◌, ◌⊎◌, inl, inr, List, [], ◌∷◌, ◌++◌, length, Some, None, refl, sym, ap, subst, ◌∙◌, arith, append-nil, append_assoc}
+use Rattle.std.proofs.Common.{◌≡◌, ℕ, zero, suc, ◌+◌, ◌-◌, Bool, true, false, not, ◌==◌, ◌&&◌, ◌<◌, ◌≤◌, ◌⊎◌, inl, inr, List, [], ◌∷◌, ◌++◌, length, Some, None, refl, sym, ap, subst, ◌∙◌, arith, append-nil, append_assoc}
 use Rattle.std.specs.Prelude.{Option, IfSome, Contains, slice_get, if◌then◌else◌}
 use Rattle.std.specs.Option.{option_and_then}
 use Rattle.std.proofs.lemmas.List.Elements.{Contains-append_left, Contains-append_right, Contains-append_cases}
-use Rattle.std.proofs.lemmas.Bool.{eqb-true, eqb-false, eq-eqb, ne_eqb, and_parts, and_from, not-true, not_from_false}
-use Rattle.std.proofs.lemmas.Option.{none-some, same_Some, slice_get_within}
+use Rattle.std.proofs.lemmas.Bool.{eqb-true, eqb-false, eq-eqb, ne_eqb, and_parts, and_from, not_from_false}
+use Rattle.std.proofs.lemmas.Option.{none-some, slice_get_within}
 use Rattle.base.proofs.Lists.{contains_cases}
 use Rattle.base.specs.Ancestors.{steps_up, IsAncestor}
 use Rattle.base.proofs.Going.{going_ends}
-use Rattle.core_program.specs.Core.{Program, Class, Method}
+use Rattle.core_program.specs.Core.{Program, Class}
 use Rattle.core_program.specs.Dispatch.{above_in, above_of, partner, targets_in, target_of, inherited_target, IsOwn, Overrides}
 use Rattle.core_program.specs.Typed.{own, overridden, inherited, IsTyped}
 use Rattle.rules.specs.Clauses.{method_class, is_this_number, is_over}
 use Rattle.rules.specs.Search.{row_at}
 use Rattle.rules.proofs.Reaching.{contains_none, contains_one, contains_here, number_is, overrides_of, partner_in, class_with}
 use Rattle.rules.specs.Nearest.{LeadTo, near, further, AreNearest}
-use Rattle.rules.specs.Pairs.{targets_above, is_own, overrides_in, is_between, is_nearest, pair_nearest, pairs_nearest, class_nearest, nearest_from}
+use Rattle.rules.specs.Pairs.{targets_above, overrides_in, is_between, is_nearest, pair_nearest, pairs_nearest, class_nearest, nearest_from}
 
 -- the pairs of a class, and of the one above it
 abbrev owns : Program → ℕ → List (ℕ × ℕ)

@@ -15,8 +15,7 @@ mod Ascending
 pub mod LimitLemmas
 pub mod UniqueSets
 pub mod Required
--- Lemmas on the rows of nearest methods: pairs that are found where they stand (Found), and that the rows lead to all that override (Leading).
-pub mod Found
+-- The rows of nearest methods lead to all that override (Leading).
 pub mod Leading
 -- Lemmas on callers: measures of bodies (Weights, Blocks), methods in memory (CallerLookups), rows of callers (CalleeLemmas), and what the effect
 -- of a body depends on (CallsSame).

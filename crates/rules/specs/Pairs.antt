@@ -1,6 +1,6 @@
 -- Which pairs of a class have a method that is one of the nearest to override the other.
-use Rattle.std.specs.Prelude.{ℕ, zero, suc, ◌+◌, Bool, true, false, not, ◌&&◌, ◌==◌, List, [], ◌∷◌, ◌++◌, Option, Some, None, slice_get, if◌then◌else◌}
-use Rattle.core_program.specs.Core.{Program, Class}
+use Rattle.std.specs.Prelude.{ℕ, zero, suc, ◌+◌, Bool, false, not, ◌&&◌, ◌==◌, List, [], ◌∷◌, ◌++◌, Option, Some, None, slice_get, if◌then◌else◌}
+use Rattle.core_program.specs.Core.{Program}
 use Rattle.core_program.specs.Dispatch.{partner, targets_in, above_of}
 use Rattle.rules.specs.Clauses.{method_class, is_this_number}
 

@@ -1,7 +1,7 @@
 -- The pair that stands at the place.
 use Rattle.std.proofs.Common.{sym, refl, ◌∙◌}
 use Rattle.std.proofs.lemmas.Option.{slice_get_read}
-use Rattle.rules.proofs.Found.{found_partner}
+use Rattle.rules.proofs.Ascending.{found_partner}
 use Rattle.rules.proofs.targets.partner_at.Goals as goal
 
 pub returns-then-eq : goal.returns-then-eq

@@ -1,4 +1,4 @@
-use Rattle.std.proofs.Common.{◌≡◌, length, sym, ◌∙◌, ap, arith}
+use Rattle.std.proofs.Common.{length, ◌∙◌, ap, arith}
 use Rattle.core_program.specs.Views.{program_of}
 use Rattle.machine.proofs.EqualMaps.{kept_still, counted_still}
 use Rattle.machine.proofs.machine.Machine.copy.Goals as goal
