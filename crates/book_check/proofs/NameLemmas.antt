@@ -60,11 +60,6 @@ pub value_as : {E : Type 0} (r : Result Tree E) (f g : Held → Basic) → ((H :
 value_as (Ok x) f g same e = λ H. e H ∙ same H
 value_as (Err d) f g same e = tt
 
--- a test of a path that has no name
-pub none_value : (name : PathData → Option PathData) (p : PathData) (t a b : Cond) (H : Held) → t ≡ TestC p a b → name p ≡ None → value_of b (named_set name H) ≡ value_of t (named_set name H)
-none_value name p t a b H is none =
-    sym (ap (λ z. value_of z (named_set name H)) is ∙ ap (λ o. if holds_at o H then value_of a (named_set name H) else value_of b (named_set name H)) none)
-
 -- one required path more
 one_more : (held all : Bool) (v later error : Basic) → later ≡ (if all then v else Error) → error ≡ Error → (if held then later else error) ≡ (if held && all then v else Error)
 one_more true all v later _ l e = l

@@ -14,7 +14,6 @@ use Rattle.books.specs.Derivations.{node, Nodes, no_nodes, and_node}
 use Rattle.effects.specs.Parts.{Part, ExprP, StmtP, parts_of}
 use Rattle.book_check.specs.declared.wrong.Wrong.{Wrong}
 use Rattle.book_check.specs.declared.wrong.Wrong.TheVariants as wrong
-use Rattle.book_check.specs.declared.wrong.TextWrong.TheVariants as text
 use Rattle.book_check.specs.Blocks.{keeps_paths}
 use Rattle.book_check.specs.Conclusions.{tree_numbered}
 use Rattle.book_check.specs.BookWork.{leaves, leaves_numbered, leaves_among, all_keep, makes_tree, own_leaves, doubled, value_work, step_work, premises_work, line_work, lines_work}
@@ -34,10 +33,6 @@ some_leaves (TestC p a b) =
 
 pub some_numbered : (table : List Cond) (n : ℕ) → 1 ≤ leaves_numbered table n
 some_numbered table n = some_leaves (tree_numbered (slice_get table n))
-
--- the first of nodes side by side, and the others
-pub first_leaves : (table : List Cond) (ds es ps : Nodes) (w : Word) (n : ℕ) → ds ≡ and_node (node w n ps) es → leaves_among table ds ≡ leaves_numbered table n + leaves_among table es
-first_leaves table ds es ps w n e = ap (leaves_among table) e
 
 some_doubled : (n : ℕ) → suc n ≤ doubled n
 some_doubled zero = omega arith
@@ -94,22 +89,10 @@ chosen false n own some =
 more_value : (part : Part) (n : ℕ) → n + 1 ≤ value_work part n
 more_value part n = chosen (makes_tree part) n (own_leaves part) (some_own part)
 
--- where a tree is made, and where pairs are told
-pub value_made : (part : Part) (n : ℕ) → makes_tree part ≡ true → value_work part n ≡ doubled n
-value_made part n is = ap (λ b. if b then doubled n else ((n + own_leaves part) * (n + own_leaves part))) is
-
+-- where pairs are told
 pub value_pairs : (part : Part) (n own all : ℕ) → makes_tree part ≡ false → own ≡ own_leaves part → all ≡ n + own → value_work part n ≡ all * all
 value_pairs part n own all is same sum =
     ap (λ b. if b then doubled n else ((n + own_leaves part) * (n + own_leaves part))) is ∙ ap (λ k. (n + k) * (n + k)) (sym same) ∙ ap (λ k. k * k) (sym sum)
-
--- more than a bound
-pub value_large : (part : Part) (n own most : ℕ) → makes_tree part ≡ false → own ≡ own_leaves part → most < n + own → most < value_work part n
-value_large part n own most is same large =
-    let own_some = some_own part in
-    let one : 1 ≤ n + own = omega (arith, own_some, same) in
-    let less = once (n + own) (n + own) one in
-    let is_all = value_pairs part n own (n + own) is same refl in
-    omega (arith, large, less, is_all)
 
 module _ (table : List Cond) (part : Part) (n : ℕ) (ds : Nodes) (most : ℕ) where
   pub step_large : most < leaves_numbered table n → most < step_work table part n ds
@@ -169,6 +152,3 @@ lines_done table methods lines e = ap (lines_work table methods) e ∙ no_lines 
 pub no_work : {A : Type 0} (r : Result A Wrong) (X : Type 0) → IfErr r (λ w. w ≢ wrong.Work) → IfErr r (λ w. w ≡ wrong.Work → X)
 no_work (Ok a) X h = tt
 no_work (Err w) X h = λ e. absurd (h e)
-
-pub wrong_is : (w : Wrong) → text.Wrong w ≡ text.Wrong wrong.Work → w ≡ wrong.Work
-wrong_is w e = let h : text.Wrong w ≡ text.Wrong wrong.Work = e in cc

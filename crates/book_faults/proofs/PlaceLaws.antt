@@ -1,5 +1,7 @@
 -- The first fault of a text is where a rule is broken, else where no text goes on.
 use Rattle.std.proofs.Common.{◌≡◌, ◌⊎◌, inl, inr, ℕ, zero, suc, ◌+◌, ◌-◌, ◌<◌, ◌≤◌, List, [], ◌∷◌, ◌++◌, length, length-append, length-drop, take, drop, take-append-drop, Option, Some, None, Ok, Err, refl, sym, ◌∙◌, ap, subst, arith, append_assoc}
+use Rattle.std.proofs.lemmas.Bool.{cases_order}
+use Rattle.std.proofs.Math.Seq.{take-append_seam}
 use Rattle.std.proofs.lemmas.Option.{same_Some}
 use Rattle.books.specs.declared.stop.Kind.{Kind}
 use Rattle.books.specs.declared.stop.Kind.TheVariants as kinds
@@ -28,10 +30,6 @@ use Rattle.book_faults.proofs.LooseTexts.{read_loose, loose_of}
 -- a rule is broken at this place
 abbrev Broken : List ℕ → ℕ → Type 0
 Broken bytes place = (kind : Kind) × BreaksAt bytes kind place
-
-take_whole : (front rest : List ℕ) → take (length front) (front ++ rest) ≡ front
-take_whole [] rest = refl
-take_whole (x ∷ front) rest = ap (λ z. x ∷ z) (take_whole front rest)
 
 -- less of a front is one
 fewer_bytes : (bytes : List ℕ) (k n : ℕ) → k ≤ n → IsLooseFront (take n bytes) → IsLooseFront (take k bytes)
@@ -79,7 +77,7 @@ kind_of kind other a b o e d = sym (kind_in-is kind a) ∙ ap kind_in (same_Some
 at_length : (bytes front rest : List ℕ) (kind : Kind) → bytes ≡ front ++ rest → BreaksBook kind front rest → BreaksAt bytes kind (length front)
 at_length bytes front rest kind is b =
     subst (λ z. BreaksBook kind (take (length front) z) (drop (length front) z)) (sym is)
-    (subst (λ z. BreaksBook kind z (drop (length front) (front ++ rest))) (sym (take_whole front rest)) (subst (BreaksBook kind front) (sym (drop_front front rest)) b))
+    (subst (λ z. BreaksBook kind z (drop (length front) (front ++ rest))) (sym (take-append_seam front rest)) (subst (BreaksBook kind front) (sym (drop_front front rest)) b))
 
 why_seen : (bytes front rest : List ℕ) → bytes ≡ front ++ rest → StopsOn loose_book front rest ⊎ Breaks BreaksBook front rest → length front < length bytes →
     (IsLooseFront (take (length front + 1) bytes) → ⊥) ⊎ Broken bytes (length front)
@@ -93,7 +91,7 @@ seen_by bytes (Err d) s kind place e =
     let at : length bytes - length d.1 ≡ place = place_of d.0 kind (length bytes - length d.1) place (Some (fault_at d.0 (length bytes - length d.1))) refl e in
     let front : length s.front ≡ place = omega (arith, at, ap length s.whole ∙ length-append s.front d.1) in
     subst (FaultSeen bytes) front (record {
-      before = subst IsLooseFront (sym (ap (take (length s.front)) s.whole ∙ take_whole s.front d.1))
+      before = subst IsLooseFront (sym (ap (take (length s.front)) s.whole ∙ take-append_seam s.front d.1))
           (record { more = s.begun.more; book = s.begun.value; loose = s.begun.is.loose; whole = s.begun.is.text });
       within = omega (arith, ap length s.whole ∙ length-append s.front d.1);
       why = why_seen bytes s.front d.1 s.whole s.why;
@@ -193,17 +191,6 @@ not_before : (bytes : List ℕ) (kind : Kind) (p place : ℕ) → p < place → 
 not_before bytes kind p place less f stuck (inl is) = f.first is.0 p less is.1
 not_before bytes kind p place less f stuck (inr other) = no_later_end bytes p place less f.before other (end_within bytes place stuck)
 
-order_of : (a b : ℕ) → (a ≡ b) ⊎ ((a < b) ⊎ (b < a))
-order_of zero zero = inl refl
-order_of zero (suc b) = inr (inl (omega arith))
-order_of (suc a) zero = inr (inr (omega arith))
-order_of (suc a) (suc b) = next (order_of a b)
-  where
-    next : (a ≡ b) ⊎ ((a < b) ⊎ (b < a)) → (suc a ≡ suc b) ⊎ ((suc a < suc b) ⊎ (suc b < suc a))
-    next (inl same) = inl (ap suc same)
-    next (inr (inl less)) = inr (inl (omega (arith, less)))
-    next (inr (inr less)) = inr (inr (omega (arith, less)))
-
 -- a fault of some kind stands here
 abbrev HasFault : List ℕ → ℕ → Type 0
 HasFault bytes place = (kind : Kind) × (first_book_fault bytes ≡ Some (fault_at kind place))
@@ -218,7 +205,7 @@ ended_fault : (bytes : List ℕ) (kind : Kind) (place : ℕ) → IsFirstBookFaul
 ended_fault bytes kind place f stuck (Ok y) e = absurd (text_not_ended bytes place (text_by bytes (pass_book bytes) refl (ap (fault_of (length bytes)) e)) stuck)
 ended_fault bytes kind place f stuck (Err d) e =
     let p = length bytes - length d.1 in
-    at_place bytes kind d.0 p place f stuck (ap (fault_of (length bytes)) e) (order_of p place)
+    at_place bytes kind d.0 p place f stuck (ap (fault_of (length bytes)) e) (cases_order p place)
 
 -- where no bracket is too deep, the fault is one of form
 form_fault : (bytes : List ℕ) (other : Kind) (place : ℕ) → (BreaksAt bytes kinds.TooDeep place → ⊥) → first_book_fault bytes ≡ Some (fault_at other place) → first_book_fault bytes ≡ Some (fault_at kinds.Form place)

@@ -111,7 +111,7 @@ local_stop {A} B k ts = record { at = ([], refl, stop ts) }
 
 -- ---- one byte first
 
-under_ok : {A : Type 0} (p q : List ℕ → Res A) (b : ℕ) → ((z : List ℕ) → p (b ∷ z) ≡ q z) → (front : List ℕ) (a : A) (rest : List ℕ) → AfterOk q front a rest → AfterOk p (b ∷ front) a rest
+pub under_ok : {A : Type 0} (p q : List ℕ → Res A) (b : ℕ) → ((z : List ℕ) → p (b ∷ z) ≡ q z) → (front : List ℕ) (a : A) (rest : List ℕ) → AfterOk q front a rest → AfterOk p (b ∷ front) a rest
 under_ok p q b same front a [] s = tt
 under_ok p q b same front a (c ∷ r) s = λ more. same (front ++ (c ∷ more)) ∙ s more
 

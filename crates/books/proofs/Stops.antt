@@ -3,7 +3,7 @@ use Rattle.std.proofs.Common.{◌≡◌, ◌⊎◌, inl, inr, ℕ, ◌==◌, ◌
 use Rattle.std.proofs.lemmas.Bool.Decides.{nat_tests}
 use Rattle.books.specs.declared.stop.Kind.TheVariants.{Form}
 use Rattle.books.specs.Combine.{Res, ◌>>=◌, begins, expect}
-use Rattle.books.proofs.Locals.{AfterOk, along_ok, goes_on, both_ok, same_first}
+use Rattle.books.proofs.Locals.{AfterOk, along_ok, goes_on, both_ok, same_first, under_ok}
 use Rattle.books.proofs.Sound.{Bytes}
 
 -- nothing is read
@@ -186,10 +186,6 @@ judged_if L M B byte p q ts x y first other = record { at = choice_by L M B byte
 
 -- ---- one byte first
 
-under_read : {A : Type 0} (p q : List ℕ → Res A) (b : ℕ) → ((z : List ℕ) → p (b ∷ z) ≡ q z) → (front : List ℕ) (a : A) (rest : List ℕ) → AfterOk q front a rest → AfterOk p (b ∷ front) a rest
-under_read p q b same front a [] s = tt
-under_read p q b same front a (c ∷ r) s = λ more. same (front ++ (c ∷ more)) ∙ s more
-
 under_why : {A : Type 0} (B : List ℕ → List ℕ → Type 0) (p q : List ℕ → Res A) (b : ℕ) → ((z : List ℕ) → p (b ∷ z) ≡ q z) → (front rest : List ℕ) → StopsOn q front rest ⊎ B (b ∷ front) rest → StopsOn p (b ∷ front) rest ⊎ B (b ∷ front) rest
 under_why B p q b same front [] (inl s) = inl tt
 under_why B p q b same front (c ∷ r) (inl s) = inl (λ more. subst Fails (sym (same (front ++ (c ∷ more)))) (s more))
@@ -197,7 +193,7 @@ under_why B p q b same front rest (inr s) = inr s
 
 under_by : {A : Type 0} (L M : List ℕ → A → Type 0) (B : List ℕ → List ℕ → Type 0) (p q : List ℕ → Res A) (b : ℕ) (ts : List ℕ) → ((z : List ℕ) → p (b ∷ z) ≡ q z) → (x : Res A) →
     IsJudged (λ ys a. L (b ∷ ys) a) (λ ys a. M (b ∷ ys) a) (λ ys zs. B (b ∷ ys) zs) q ts x → IsJudged L M B p (b ∷ ts) x
-under_by L M B p q b ts same (Ok y) s = record { front = b ∷ s.front; whole = ap (λ z. b ∷ z) s.whole; is = s.is; fits = s.fits; on = under_read p q b same s.front y.0 y.1 s.on }
+under_by L M B p q b ts same (Ok y) s = record { front = b ∷ s.front; whole = ap (λ z. b ∷ z) s.whole; is = s.is; fits = s.fits; on = under_ok p q b same s.front y.0 y.1 s.on }
 under_by L M B p q b ts same (Err d) s = record {
   front = b ∷ s.front;
   whole = ap (λ z. b ∷ z) s.whole;

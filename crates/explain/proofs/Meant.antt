@@ -17,9 +17,9 @@ use Rattle.rules.specs.Rules.{AtMost, held_in}
 use Rattle.explain.specs.StepReadings.{are_many, first_where, is_cmpd, is_error, own_at}
 use Rattle.explain.specs.Steps.{stmt_steps}
 use Rattle.explain.specs.Visits.{Visit, stmt_visits}
-use Rattle.explain.proofs.WhyErrors.{error_reads}
+use Rattle.explain.proofs.WhyErrors.{error_reads, error_is}
 use Rattle.explain.proofs.Heavy.{part_heavy}
-use Rattle.explain.proofs.Readings.{cmpd_reads}
+use Rattle.explain.proofs.Readings.{cmpd_reads, cmpd_is}
 use Rattle.explain.proofs.AllVisits.{part_among}
 use Rattle.explain.specs.Explaining.{body_why, is_call_of_method, compound_or, compound_why, is_error_of_part, looped_or, over_of, steps_of, steps_why, why_of, with_first, wrong_of, wrong_or}
 use Rattle.explain.specs.Meanings.{are_within, IsBefore, IsAmong, IsAboveLimit, IsReasonOf, Means}
@@ -63,27 +63,6 @@ atomic_else Mover heavy fine simple = absurd cc
 atomic_else Atomic heavy fine simple = refl
 atomic_else Cmpd heavy fine simple = absurd cc
 atomic_else Error heavy fine simple = absurd cc
-
-is_compound : (b : Basic) → is_cmpd b ≡ true → b ≡ Cmpd
-is_compound Const e = absurd cc
-is_compound Mover e = absurd cc
-is_compound Atomic e = absurd cc
-is_compound Cmpd e = refl
-is_compound Error e = absurd cc
-
-is_wrong : (b : Basic) → is_error b ≡ true → b ≡ Error
-is_wrong Const e = absurd cc
-is_wrong Mover e = absurd cc
-is_wrong Atomic e = absurd cc
-is_wrong Cmpd e = absurd cc
-is_wrong Error e = refl
-
-not_wrong : (b : Basic) → b ≢ Error → is_error b ≡ false
-not_wrong Const e = refl
-not_wrong Mover e = refl
-not_wrong Atomic e = refl
-not_wrong Cmpd e = refl
-not_wrong Error e = absurd (e refl)
 
 -- ---- lists
 
@@ -225,7 +204,7 @@ module _ (P : Program) (rel : ℕ → List PathData) (A : Assignment) where
 
   own_comps : (vs : List Visit) (ws : List Visit) → AllByRecursion (λ v. Solid vs v × (compound v ≡ true)) ws → AllByRecursion (IsAmong P rel A vs Cmpd) ws
   own_comps vs ws all = all_mapped (λ v. Solid vs v × (compound v ≡ true)) (IsAmong P rel A vs Cmpd) ws
-      (λ v h. record { there = h.0.0; own = is_compound (own_at P rel A v) h.1 }) all
+      (λ v h. record { there = h.0.0; own = cmpd_is (own_at P rel A v) h.1 }) all
 
   -- a list in which some visit passes a test has a first one that does
   some_where : (test : Visit → Bool) (vs : List Visit) (v : Visit) → Contains vs v → test v ≡ true → IsSome (first_where test vs)
@@ -292,7 +271,7 @@ module _ (P : Program) (rel : ℕ → List PathData) (A : Assignment) where
 
     wrong_errors : AllByRecursion (IsAmong P rel A all_visits Error) (errors_in P rel A all_visits)
     wrong_errors = all_mapped (λ v. Contains all_visits v × (is_error (own_at P rel A v) ≡ true)) (IsAmong P rel A all_visits Error) (errors_in P rel A all_visits)
-        (λ v h. record { there = h.0; own = is_wrong (own_at P rel A v) h.1 })
+        (λ v h. record { there = h.0; own = error_is (own_at P rel A v) h.1 })
         (all_filtered (Contains all_visits) (λ v. is_error (own_at P rel A v)) all_visits (each_there all_visits))
 
     wrong_meant : (errors : List Visit) → AllByRecursion (IsAmong P rel A all_visits Error) errors → (errors ≡ [] → ⊥) → IsReasonOf P rel A overs method limit (wrong_of P rel errors)
@@ -333,7 +312,7 @@ module _ (P : Program) (rel : ℕ → List PathData) (A : Assignment) where
         by : (b : Bool) → is_error body ≡ b → IsReasonOf P rel A overs method limit (if b then wrong_of P rel (errors_in P rel A all_visits) else steps_of P rel A self all_steps)
         by true is = wrong_meant (errors_in P rel A all_visits) wrong_errors
             (λ empty. let none = none_where (λ v. is_error (own_at P rel A v)) all_visits empty in
-            let some = (error_reads P rel A (StmtP method.body) 0 begun).0 (is_wrong body is) in
+            let some = (error_reads P rel A (StmtP method.body) 0 begun).0 (error_is body is) in
             false≢true (sym (ap is_some none) ∙ some))
         by false is = compound_meant_body (not_error body is) (cmpd_above body limit atomic above is)
 

@@ -28,7 +28,7 @@ is_atomic Cmpd = false
 is_atomic Error = false
 
 -- tests and the basics that pass them
-cmpd_is : (b : Basic) → is_cmpd b ≡ true → b ≡ Cmpd
+pub cmpd_is : (b : Basic) → is_cmpd b ≡ true → b ≡ Cmpd
 cmpd_is Const e = absurd cc
 cmpd_is Mover e = absurd cc
 cmpd_is Atomic e = absurd cc

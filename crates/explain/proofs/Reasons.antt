@@ -105,15 +105,6 @@ first_at (v ∷ vs) (suc n) = first_at vs n
 pub wrong_taken : (vs : List Visit) (n : ℕ) (o : Option Visited) (w : WhyData) → option_map visit_of o ≡ slice_get vs n → first_wrong (drop n vs) ≡ w → wrong_at (option_map visit_of o) ≡ w
 wrong_taken vs n o w is found = ap wrong_at is ∙ sym (first_at vs n) ∙ found
 
--- only accesses and calls are errors by themselves
-pub wrong_variable : (x : ℕ) (is_final : Bool) (H : Held) → is_error (variable_effect is_final) ≡ false
-wrong_variable x true H = refl
-wrong_variable x false H = refl
-
-pub wrong_lock : (b : Bool) → is_error (lock_effect b) ≡ false
-wrong_lock true = refl
-wrong_lock false = refl
-
 -- of the parts that can't be moved the errors are those of all
 wrong_or_not : (b : Basic) (v : Visit) (vs ws : List Visit) → vs ≡ ws
     → (if is_heavy b then (if is_error b then v ∷ vs else vs) else vs) ≡ (if is_error b then v ∷ ws else ws)

@@ -26,7 +26,7 @@ same_tests true false e = absurd cc
 same_tests false true e = absurd cc
 same_tests false false e = refl
 
-error_is : (b : Basic) → is_error b ≡ true → b ≡ Error
+pub error_is : (b : Basic) → is_error b ≡ true → b ≡ Error
 error_is Const e = absurd cc
 error_is Mover e = absurd cc
 error_is Atomic e = absurd cc

@@ -1,5 +1,7 @@
 -- The first fault of a text is where a rule is broken, else where no text goes on.
 use Rattle.std.proofs.Common.{◌≡◌, ◌⊎◌, inl, inr, ℕ, zero, suc, ◌+◌, ◌-◌, ◌<◌, ◌≤◌, List, [], ◌∷◌, ◌++◌, length, length-append, length-drop, take, drop, take-append-drop, Option, Some, None, Ok, Err, refl, sym, ◌∙◌, ap, subst, arith, append_assoc}
+use Rattle.std.proofs.lemmas.Bool.{cases_order}
+use Rattle.std.proofs.Math.Seq.{take-append_seam}
 use Rattle.std.proofs.lemmas.Option.{same_Some}
 use Rattle.std.specs.List.{AllByRecursion}
 use Rattle.books.specs.Combine.{Res, ◌>>=◌, exactly}
@@ -12,10 +14,6 @@ use Rattle.refutation.proofs.TextLaws.{lines_text_is, no_fault}
 use Rattle.books.proofs.Stops.{Fails, StopsOn, IsJudged}
 use Rattle.refutation.proofs.StopLines.{loose_blame, Anything, BlameFits, judged_blame}
 use Rattle.refutation.proofs.BrokenRules.{rule_stops, rule_there, complete_any}
-
-take_all : (front rest : List ℕ) → take (length front) (front ++ rest) ≡ front
-take_all [] rest = refl
-take_all (x ∷ front) rest = ap (λ z. x ∷ z) (take_all front rest)
 
 -- less of a front is one
 fewer_bytes : (bytes : List ℕ) (k n : ℕ) → k ≤ n → IsFront (take n bytes) → IsFront (take k bytes)
@@ -46,7 +44,7 @@ why_seen bytes front [] is why within = absurd (omega (arith, within, ap length 
 why_seen bytes front (b ∷ r) is (inl s) within = inl (λ f. goes_on_not front b s (subst IsFront (ap (take (length front + 1)) is ∙ take_front front b r) f))
 why_seen bytes front (b ∷ r) is (inr s) within =
     inr (subst (λ z. BreaksRule (take (length front) z) (drop (length front) z)) (sym is)
-    (subst (λ z. BreaksRule z (drop (length front) (front ++ (b ∷ r)))) (sym (take_all front (b ∷ r))) (subst (BreaksRule front) (sym (drop_front front (b ∷ r))) s)))
+    (subst (λ z. BreaksRule z (drop (length front) (front ++ (b ∷ r)))) (sym (take-append_seam front (b ∷ r))) (subst (BreaksRule front) (sym (drop_front front (b ∷ r))) s)))
 
 seen_by : (bytes : List ℕ) (x : Res (List LineData)) → IsJudged Anything BlameFits BreaksRule loose_blame bytes x → (place : ℕ) → stop_of (length bytes) x ≡ Some place → FaultSeen bytes place
 seen_by bytes (Ok y) s place e = absurd (let no : None ≡ Some place = e in cc)
@@ -54,7 +52,7 @@ seen_by bytes (Err d) s place e =
     let at : length bytes - length d.1 ≡ place = same_Some (length bytes - length d.1) place e in
     let front : length s.front ≡ place = omega (arith, at, ap length s.whole ∙ length-append s.front d.1) in
     subst (FaultSeen bytes) front (record {
-      before = subst IsFront (sym (ap (take (length s.front)) s.whole ∙ take_all s.front d.1))
+      before = subst IsFront (sym (ap (take (length s.front)) s.whole ∙ take-append_seam s.front d.1))
           (record { more = s.begun.more; lines = s.begun.value; few = s.begun.is.few; fit = s.begun.is.fit; whole = s.begun.is.text });
       within = omega (arith, ap length s.whole ∙ length-append s.front d.1);
       why = why_seen bytes s.front d.1 s.whole s.why;
@@ -156,20 +154,9 @@ not_before : (bytes : List ℕ) (p place : ℕ) → p < place → IsFirstFault b
 not_before bytes p place less f stuck (inl is) = f.first p less is
 not_before bytes p place less f stuck (inr other) = no_later_stuck bytes p place less f.before other (stuck_within bytes place stuck)
 
-order_of : (a b : ℕ) → (a ≡ b) ⊎ ((a < b) ⊎ (b < a))
-order_of zero zero = inl refl
-order_of zero (suc b) = inr (inl (omega arith))
-order_of (suc a) zero = inr (inr (omega arith))
-order_of (suc a) (suc b) = next (order_of a b)
-  where
-    next : (a ≡ b) ⊎ ((a < b) ⊎ (b < a)) → (suc a ≡ suc b) ⊎ ((suc a < suc b) ⊎ (suc b < suc a))
-    next (inl same) = inl (ap suc same)
-    next (inr (inl less)) = inr (inl (omega (arith, less)))
-    next (inr (inr less)) = inr (inr (omega (arith, less)))
-
 same_fault : (bytes : List ℕ) (place : ℕ) → IsFirstFault bytes place → IsStuckAt bytes place → (o : Option ℕ) → first_certificate_fault bytes ≡ o → o ≡ Some place
 same_fault bytes place f stuck None e = absurd (text_not_stuck bytes place (no_fault_text bytes e) stuck)
-same_fault bytes place f stuck (Some p) e = at (order_of p place)
+same_fault bytes place f stuck (Some p) e = at (cases_order p place)
   where
     at : (p ≡ place) ⊎ ((p < place) ⊎ (place < p)) → Some p ≡ Some place
     at (inl same) = ap Some same
