@@ -13,7 +13,7 @@ ghost use Rattle.level_check.specs.Told.{Calls, told_at, told_level_of, expr_tol
 use crate::told::Seen;
 use crate::walk::{Carried, Walk};
 use core_program::CoreExpr;
-use effects::held_under;
+use effects::{Called, held_under};
 use paths::MethodId;
 use std::alloc::AllocError as NoMemory;
 
@@ -30,15 +30,12 @@ fn add_run(
         map told_level_of seen.new.items ≡ map told_level_of seen.old.items
         ++ Calls method (held_under (rel_of walk.now.sets.now method) (path_of P (expr_of receiver.now)) (paths_of P (exprs_from args.now)) (has_path carried.now.held.now)) carried.now.under ∷ []) }
 {
-    let held = held_under(
-        walk.alloc,
-        walk.program,
-        walk.sets,
+    let call = Called {
         receiver,
-        method,
+        callee: method,
         args,
-        carried.held,
-    )?;
+    };
+    let held = held_under(walk.alloc, walk.program, walk.sets, &call, carried.held)?;
     seen.push(Seen::Comes {
         method,
         held,
