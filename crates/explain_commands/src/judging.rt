@@ -7,8 +7,7 @@ ghost use Rattle.explain_commands.specs.Least.{IsLeastJudged};
 ghost use Rattle.sources.specs.Checking.{IsSourceOf};
 
 use conditions::{NodeTable, Tree};
-use infer::{infer, verdict};
-use sources::{Ending, Source};
+use sources::{Ending, Judgement, Source, verdict_on};
 use std::alloc::{AllocError as NoMemory, Global};
 
 /// How it ends for a source, and trees that show its least closed assignment.
@@ -23,9 +22,9 @@ fn judged_in(alloc: Global, source: &Source<'_>, nodes: &mut NodeTable) -> Resul
     requires { (file : List ℕ) × IsSourceOf file source.now }
     ensures { IfOk result (λ judged. IsLeastJudged (program_of source.now.program) source.now.sets (map cond_of judged.trees.items) judged.ending) }
 {
-    let inferred = infer(alloc, &source.program, &source.sets, nodes)?;
+    let Judgement { inferred, verdict } = verdict_on(alloc, source, nodes)?;
     let trees = nodes.trees_of(alloc, inferred.methods.as_slice())?;
-    match verdict(&source.program, &inferred, nodes) {
+    match verdict {
         Ok(()) => Ok(Judged {
             ending: Ending::Done,
             trees,

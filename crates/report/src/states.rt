@@ -10,9 +10,9 @@ ghost use Rattle.state.specs.States.{State, fields_of};
 ghost use Rattle.report.specs.Entries.{of_thread, entry_if_there};
 ghost use Rattle.report.specs.States.{class_text, print_line, field_value_text, field_values_text, object_line, lock_line, top_text, status_text, thread_line, threads_text, sight_by_methods, text_of_state, state_text};
 
-use base::write_number;
 use crate::values::{fault_word, write_address, write_value};
 use crate::verdict::write_title;
+use base::write_number;
 use classes::ClassTable;
 use core_program::CoreProgram;
 use machine::Machine;

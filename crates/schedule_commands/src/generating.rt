@@ -11,9 +11,9 @@ ghost use Rattle.state.specs.States.{State};
 ghost use Rattle.schedule_commands.specs.Generate.{GenerateAnswer, group_count, number_or_zero, counted, figure_line, figures};
 
 use crate::serialising::order_of;
+use base::write_number;
 use compile::compile;
 use itoa::Integer;
-use base::write_number;
 use schedule::generate;
 use serialise::Rearranged;
 use sources::{Ending, Refusal, Source, judge, read_source};

@@ -6,9 +6,9 @@ ghost use Rattle.classes.specs.Views.{table_data};
 ghost use Rattle.replay.specs.Views.{record_told};
 ghost use Rattle.schedule_commands.specs.Lines.{result_text, prints_text, entry_text, asked_text, given_text, call_line, calls_text, too_deep_call_line};
 
+use base::write_number;
 use classes::ClassTable;
 use replay::CallRecord;
-use base::write_number;
 use report::{write_address, write_title, write_value};
 use state::Value;
 use std::alloc::{AllocError as NoMemory, Global};

@@ -1,8 +1,7 @@
 -- From the least assignment and the verdict on it to the accepted source or its refusal.
-use Rattle.std.proofs.Common.{◌≡◌, ◌↔◌, ℕ, ◌≤◌, ◌^◌, true, false, List, Option, Some, None, Result, IfSome, is_ok, sym, subst, ap, ◌∙◌, arith, length, slice_get, option_map}
+use Rattle.std.proofs.Common.{◌≡◌, ◌↔◌, ℕ, ◌≤◌, ◌^◌, true, false, List, Option, Some, None, Result, Ok, Err, IfSome, IfErr, OnOk, is_ok, sym, subst, ap, ◌∙◌, arith, length, slice_get, option_map}
 use Rattle.std.proofs.lemmas.List.{length-map}
 use Rattle.std.proofs.lemmas.Option.{slice_get-map, same_Some}
-use Rattle.algebra.specs.declared.basic.Basic.{Basic}
 use Rattle.algebra.specs.HeldPaths.{Held}
 use Rattle.classes.specs.Views.{table_data}
 use Rattle.conditions.specs.Conditions.{Cond, value_of, IsCanonical}
@@ -14,9 +13,9 @@ use Rattle.core_program.specs.Core.{Program}
 use Rattle.core_program.specs.Typed.{IsTyped}
 use Rattle.core_program.specs.Views.{program_of}
 use Rattle.infer.specs.Least.{IsLeast}
-use Rattle.infer.specs.Verdicts.{basic_at, IsFirstBroken, IsBrokenByAll}
+use Rattle.infer.specs.declared.bounds.Broken.{Broken}
+use Rattle.infer.specs.Verdicts.{basic_at, HoldBounds, IsFirstBroken, IsBrokenByAll}
 use Rattle.report.specs.Verdicts.{broken_line}
-use Rattle.rules.specs.Effect.{Assignment}
 use Rattle.rules.specs.Near.{MethodPaths, AreRelevant, AreFew, rel_of}
 use Rattle.rules.specs.Rules.{IsAccepted}
 use Rattle.syntax.specs.Trees.{ProgramTree}
@@ -25,7 +24,7 @@ use Rattle.sources.specs.declared.refusal.Ending.TheVariants.{Inadmissible}
 use Rattle.sources.specs.declared.refusal.Refusal.{Refusal}
 use Rattle.sources.specs.Refusals.{IsRight, Tells}
 use Rattle.sources.specs.Checking.{IsSource, IsWellFormedSource}
-use Rattle.sources.specs.Judged.{IsJudgedSource, by_nodes}
+use Rattle.sources.specs.Judged.{IsJudgedSource, IsJudgement, by_nodes}
 use Rattle.sources.specs.Verdicts.{Show, IsShownLeast, NoAccepted, refuted}
 use Rattle.sources.proofs.Told.{right_refusal}
 
@@ -49,17 +48,35 @@ shows P is nodes table count known = record {
     value m tree H (Some n) at = ap (λ c. value_of c H) (sym (same_Some (node_tree is n) tree at))
     value m tree H None at = absurd cc
 
--- where every bound is kept
-pub judged : {E : Type 0} (P : Program) (sets : List MethodPaths) (is : Items) (nodes : List Node) (r : Result Unit E) → AreRelevant P sets → AreFew sets
-    → length nodes ≡ length P.methods → AreAmongFirst (length is) nodes
-    → IsLeast P (rel_of sets) (by_nodes is nodes) → (is_ok r ≡ true) ↔ IsAccepted P → is_ok r ≡ true
-    → IsJudgedSource P is nodes
-judged P sets is nodes r relevant few count known least accepts ok = record {
-  sets = sets;
+-- the verdict on the nodes of a least closed assignment
+pub judgement : (P : Program) (sets : List MethodPaths) (is : Items) (nodes : List Node) (r : Result (Unit {0}) Broken) → IsTyped P → AreRelevant P sets → AreFew sets
+    → length nodes ≡ length P.methods → AreAmongFirst (length is) nodes → IsLeast P (rel_of sets) (by_nodes is nodes)
+    → (is_ok r ≡ true) ↔ IsAccepted P → OnOk r (HoldBounds P (by_nodes is nodes)) → IfErr r (λ b. IsFirstBroken P (by_nodes is nodes) b.method b.declared b.found)
+    → IfErr r (λ b. (others : List MethodPaths) → IsTyped P → AreRelevant P others → IsLeast P (rel_of others) (by_nodes is nodes) → IsBrokenByAll P (rel_of others) b.method)
+    → IsJudgement P sets is nodes r
+judgement P sets is nodes r typed relevant few count known least accepts holds first all = record {
   least = record { relevant = relevant; few = few; least = least };
-  accepted = accepts.0 ok;
   count = count;
   known = known;
+  accepted = accepts;
+  holds = holds;
+  broken = first;
+  by_all = by r all;
+}
+  where
+    by : (r : Result (Unit {0}) Broken) → IfErr r (λ b. (others : List MethodPaths) → IsTyped P → AreRelevant P others → IsLeast P (rel_of others) (by_nodes is nodes) → IsBrokenByAll P (rel_of others) b.method)
+        → IfErr r (λ b. IsBrokenByAll P (rel_of sets) b.method)
+    by (Ok u) h = h
+    by (Err b) h = h sets typed relevant least
+
+-- where every bound is kept
+pub judged : (P : Program) (sets : List MethodPaths) (is : Items) (nodes : List Node) (r : Result (Unit {0}) Broken) → IsJudgement P sets is nodes r → is_ok r ≡ true → IsJudgedSource P is nodes
+judged P sets is nodes r judgement ok = record {
+  sets = sets;
+  least = judgement.least;
+  accepted = judgement.accepted.0 ok;
+  count = judgement.count;
+  known = judgement.known;
 }
 
 -- the trees of what was judged
@@ -73,21 +90,21 @@ shown_least P is nodes trees table judged same = record {
 }
 
 -- where a bound is broken
-pub refuted_source : {E : Type 0} (file : List ℕ) (tree : ProgramTree) (source : Source) (A : Assignment) (r : Result Unit E) (m : ℕ) (declared found : Basic) (refusal : Refusal)
-    → IsSource file tree source → IsLeast (program_of source.program) (rel_of source.sets) A → (is_ok r ≡ true) ↔ IsAccepted (program_of source.program) → is_ok r ≡ false
-    → IsFirstBroken (program_of source.program) A m declared found → IsBrokenByAll (program_of source.program) (rel_of source.sets) m
-    → Tells Inadmissible (broken_line (table_data source.table) m declared found) refusal → IsRight (NoAccepted file) refusal
-refuted_source file tree source A r m declared found refusal is least accepts err first all tells =
+pub refuted_source : (file : List ℕ) (tree : ProgramTree) (source : Source) (is : Items) (nodes : List Node) (r : Result (Unit {0}) Broken) (b : Broken) (refusal : Refusal)
+    → IsSource file tree source → IsJudgement (program_of source.program) source.sets is nodes r → r ≡ Err b
+    → Tells Inadmissible (broken_line (table_data source.table) b.method b.declared b.found) refusal → IsRight (NoAccepted file) refusal
+refuted_source file tree source is nodes r b refusal whole judgement err tells =
+    let P = program_of source.program in
     right_refusal (NoAccepted file) Inadmissible _ refusal
-    (refuted tree (program_of source.program) m declared found (well_formed_source file tree source is) (record {
+    (refuted tree P b.method b.declared b.found (well_formed_source file tree source whole) (record {
       sets = source.sets;
-      assignment = A;
-      least = record { relevant = is.relevant; few = is.few; least = least };
-      none = λ accepted. absurd (let c : true ≡ false = sym (accepts.1 accepted) ∙ err in cc);
-      first = first;
-      broken = all;
+      assignment = by_nodes is nodes;
+      least = judgement.least;
+      none = λ accepted. absurd (let c : true ≡ false = sym (judgement.accepted.1 accepted) ∙ ap is_ok err in cc);
+      first = subst (λ x. IfErr x (λ e. IsFirstBroken P (by_nodes is nodes) e.method e.declared e.found)) err judgement.broken;
+      broken = subst (λ x. IfErr x (λ e. IsBrokenByAll P (rel_of source.sets) e.method)) err judgement.by_all;
     }))
-    (subst (λ t. Tells Inadmissible (broken_line t m declared found) refusal) is.table tells)
+    (subst (λ t. Tells Inadmissible (broken_line t b.method b.declared b.found) refusal) whole.table tells)
 
 -- a typed program has few methods
 pub few_methods : (P : Program) → IsTyped P → length P.methods ≤ 2 ^ 32

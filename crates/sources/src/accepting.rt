@@ -1,13 +1,13 @@
 //! Asks whether the rules accept a well-formed source.
 
-ghost use Rattle.std.specs.Prelude.{ℕ, List, map, MatchResult};
+ghost use Rattle.std.specs.Prelude.{ℕ, List, map, IfOk, MatchResult};
 ghost use Rattle.classes.specs.Views.{table_data};
 ghost use Rattle.conditions.specs.Conditions.{cond_of};
 ghost use Rattle.core_program.specs.Views.{program_of};
 ghost use Rattle.report.specs.Verdicts.{broken_line};
 ghost use Rattle.rules.specs.Rules.{IsAccepted};
 ghost use Rattle.sources.specs.Checking.{IsSourceOf};
-ghost use Rattle.sources.specs.Judged.{IsJudgedSource};
+ghost use Rattle.sources.specs.Judged.{IsJudgedSource, IsJudgement};
 ghost use Rattle.sources.specs.Refusals.{IsRight, Tells};
 ghost use Rattle.sources.specs.Verdicts.{IsShownLeast, NoAccepted};
 
@@ -18,6 +18,30 @@ use conditions::{Node, NodeTable, Tree};
 use infer::{Broken, Inferred, infer, verdict};
 use report::broken_text;
 use std::alloc::{AllocError as NoMemory, Global};
+
+/// The least closed assignment of a source, by nodes of a table, and the verdict: the first method whose bound it breaks.
+#[derive(Drop)]
+pub struct Judgement {
+    pub inferred: Inferred<Node>,
+    pub verdict: Result<(), Broken>,
+}
+
+/// The least closed assignment of a source, found in this table of nodes, and the verdict on it.
+pub fn verdict_on(
+    alloc: Global,
+    source: &Source,
+    nodes: &mut NodeTable,
+) -> Result<Judgement, NoMemory>
+    requires { (file : List ℕ) × IsSourceOf file source.now }
+    ensures { IfOk result (λ judged. IsJudgement (program_of source.now.program) source.now.sets nodes.new judged.inferred.methods.items judged.verdict) }
+{
+    let inferred = infer(alloc, &source.program, &source.sets, nodes)?;
+    let kept = verdict(&source.program, &inferred, nodes);
+    Ok(Judgement {
+        inferred,
+        verdict: kept,
+    })
+}
 
 /// The refusal of a source for a method whose bound is broken.
 fn refuse_broken(alloc: Global, table: &ClassTable, broken: &Broken) -> Refusal
@@ -39,8 +63,8 @@ fn judged_in(
     ensures { (file : List ℕ) → IsSourceOf file source.now →
         MatchResult result (λ inferred. IsJudgedSource (program_of source.now.program) nodes.new inferred.methods.items) (IsRight (NoAccepted file)) }
 {
-    let inferred = infer(alloc, &source.program, &source.sets, nodes)?;
-    match verdict(&source.program, &inferred, nodes) {
+    let Judgement { inferred, verdict } = verdict_on(alloc, source, nodes)?;
+    match verdict {
         Ok(()) => Ok(inferred),
         Err(broken) => Err(refuse_broken(alloc, &source.table, &broken)),
     }

@@ -11,7 +11,7 @@ mod print_command;
 mod reading;
 mod refusal;
 
-pub use accepting::{accepted, judge};
+pub use accepting::{Judgement, accepted, judge, verdict_on};
 pub use check_command::check;
 pub use checking::{Source, read_source, well_formed};
 pub use laws::refusal_laws;

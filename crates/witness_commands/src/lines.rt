@@ -3,8 +3,8 @@
 ghost use Rattle.std.specs.Prelude.{◌≡◌, IfOk, string_bytes};
 ghost use Rattle.witness_commands.specs.Lines.{broken_text, broken_by_line, undecided_line};
 
-use edge::joined;
 use base::write_number;
+use edge::joined;
 use std::alloc::{AllocError as NoMemory, Global};
 use witness::{Compared, Sense};
 
