@@ -191,16 +191,6 @@ module _ (P : Program) (rel : ℕ → List PathData) (A : Assignment) where
             ∙ ap (λ l. visits_of old.heavy.items ++ l) (sym (heavy_append P rel A vs (v ∷ []) ∙ ap (λ l. heavy_in P rel A vs ++ l) (heavy_one P rel A v (ap (λ (t : Bool). is_heavy (lock_effect t)) free))));
       })
 
-  pub taken_known : (x : Stmt) (p : PathData) (s : Stmt) (H : Held) (loop : Option ℕ) (n : ℕ) {old mid : Found} {a : Basic} (new : Found) (d : Basic) → x ≡ SyncS p s → H p ≡ false → next old ≡ n + 1
-      → WalkedStmt P rel A s (with_path p H) loop old a mid → new.basics ≡ mid.basics
-      → visits_of new.steps.items ≡ visits_of mid.steps.items ++ (if below_of a Mover then visit n (StmtP x) H loop else [])
-      → visits_of new.heavy.items ≡ visits_of mid.heavy.items ++ visit n (StmtP x) H loop
-      → d ≡ lift_of a → InsideStmt P rel A x n H loop old d new
-  taken_known x p s H loop n {old = old} {mid = mid} {a = a} new d known free start w basics steps heavy is =
-      subst (λ z. visits_of new.steps.items ≡ visits_of mid.steps.items ++ (if below_of a Mover then visit n (StmtP z) H loop else [])
-      → visits_of new.heavy.items ≡ visits_of mid.heavy.items ++ visit n (StmtP z) H loop → InsideStmt P rel A z n H loop old d new) (sym known)
-      (λ r h. taken_walked p s H loop n new d free start w basics r h is) steps heavy
-
   -- what is atomic by itself, behind its value
   atomic_walked : (v : Visit) (e : Expr) (H : Held) (loop : Option ℕ) (n : ℕ) {old mid : Found} {a : Basic} (new : Found) (d : Basic) → Atomic ≡ own_at P rel A v → next old ≡ n + 1
       → WalkedExpr P rel A e H loop old a mid → new.basics ≡ mid.basics

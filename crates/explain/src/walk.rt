@@ -5,8 +5,10 @@ ghost use Rattle.std.specs.Prelude.{◌≡◌, ◌+◌, ◌++◌, [], IfOk, OnOk
 ghost use Rattle.algebra.specs.declared.basic.Basic.TheVariants.{Mover};
 ghost use Rattle.algebra.specs.Basics.{below_of};
 ghost use Rattle.algebra.specs.HeldPaths.{has_path};
+ghost use Rattle.core_program.specs.Core.{SyncS};
 ghost use Rattle.core_program.specs.Locks.{path_of};
 ghost use Rattle.core_program.specs.Views.{expr_of, exprs_from, program_of, stmt_of, stmts_from};
+ghost use Rattle.effects.specs.Parts.{StmtP};
 ghost use Rattle.rules.specs.Effect.{call_of};
 ghost use Rattle.rules.specs.Mentions.{paths_of};
 ghost use Rattle.rules.specs.Near.{rel_of};
@@ -212,12 +214,8 @@ fn inside_stmt<'p, A: Assigned>(
             Ok(receiver.seq(value.seq(own)))
         }
         CoreStmt::Do(e, _) => walk_expr(walk, e, held, looped, found),
-        CoreStmt::Return(value) => {
-            let Some(e) = value else {
-                return Ok(Basic::Const);
-            };
-            walk_expr(walk, e, held, looped, found)
-        }
+        CoreStmt::Return(None) => Ok(Basic::Const),
+        CoreStmt::Return(Some(e)) => walk_expr(walk, e, held, looped, found),
         CoreStmt::If(c, a, b) => {
             let test = walk_expr(walk, c, held, looped, found)?;
             let either = walk_branches(walk, a, b, held, looped, found)?;
@@ -228,15 +226,7 @@ fn inside_stmt<'p, A: Assigned>(
             let turn = walk_stmt(walk, a, held, Some(place), found)?;
             Ok(test.seq(turn.seq(test).star()))
         }
-        CoreStmt::Sync(path, a) => {
-            if has(held, path) {
-                return walk_stmt(walk, a, held, looped, found);
-            }
-            let more = with_path(walk.alloc, path, held)?;
-            let taken = walk_stmt(walk, a, more.as_slice(), looped, found)?;
-            note_lock(walk, taken, reached, found)?;
-            Ok(taken.lift())
-        }
+        CoreStmt::Sync(path, a) => walk_sync(walk, path, a, reached, found),
         CoreStmt::Print(e) | CoreStmt::Start(e) => {
             let value = walk_expr(walk, e, held, looped, found)?;
             found.note(walk.alloc, Basic::Atomic, reached)?;
@@ -264,6 +254,28 @@ fn walk_branches<'p, A: Assigned>(
     found.choose(steps, second.below(first));
     found.put_before(before)?;
     Ok(first.join(second))
+}
+
+/// Walks through a `synchronized` on this path, where the part that is reached is that: with what is held, or with its lock as well.
+#[cycle(statements)]
+fn walk_sync<'p, A: Assigned>(
+    walk: &Walk<'_, A>,
+    path: &Path,
+    a: &'p CoreStmt,
+    reached: Reached<'p, '_>,
+    found: &mut Found<'p>,
+) -> Result<Basic, NoMemory>
+    requires { next found.old ≡ reached.node + 1 }
+    ensures { IfOk result (λ b. part_of_walk reached.entry.part ≡ StmtP (SyncS path.now (stmt_of a.now))
+        → InsideStmt (program_of walk.now.program.now) (rel_of walk.now.sets.now) (A.Assigned.assigned walk.now.assigned.now) (SyncS path.now (stmt_of a.now)) reached.entry.node (has_path reached.entry.held.now) reached.entry.looped found.old b found.new) }
+{
+    if has(reached.held, path) {
+        return walk_stmt(walk, a, reached.held, reached.looped, found);
+    }
+    let more = with_path(walk.alloc, path, reached.held)?;
+    let taken = walk_stmt(walk, a, more.as_slice(), reached.looped, found)?;
+    note_lock(walk, taken, reached, found)?;
+    Ok(taken.lift())
 }
 
 /// Notes a `synchronized` that takes its lock: a step where its body, which is this with the lock held, can be moved.

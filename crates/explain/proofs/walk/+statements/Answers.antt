@@ -1,17 +1,22 @@
 -- The walk through each kind of statement, and through blocks.
-use Rattle.std.proofs.Common.{◌≡◌, ◌++◌, true, Some, ap, sym, ◌∙◌, arith, subst, if◌then◌else◌}
+use Rattle.std.proofs.Common.{◌≡◌, ◌++◌, [], true, Some, ap, sym, ◌∙◌, arith, subst, if◌then◌else◌}
 use Rattle.std.proofs.Math.ListN.{drop_of_length-le}
 use Rattle.std.proofs.lemmas.Result.{IfOk-weaker}
-use Rattle.algebra.specs.Basics.{seq_of, star_of}
+use Rattle.algebra.specs.declared.basic.Basic.TheVariants.{Mover}
+use Rattle.algebra.specs.Basics.{below_of, seq_of, star_of}
 use Rattle.algebra.specs.HeldPaths.{has_path}
 use Rattle.core_program.proofs.ViewLemmas.{stmt_of-Block}
+use Rattle.core_program.specs.Core.{SyncS}
 use Rattle.core_program.specs.Locks.{path_of}
 use Rattle.core_program.specs.Views.{expr_of, stmt_of, stmts_from, program_of}
+use Rattle.effects.specs.Parts.{Part, StmtP}
 use Rattle.rules.specs.Effect.{access_of}
 use Rattle.rules.specs.Near.{rel_of}
+use Rattle.explain.specs.Visits.{visit}
+use Rattle.explain.specs.Views.{visits_of}
 use Rattle.explain.specs.Walked.{InsideStmt, WalkedExpr, WalkedStmt, WalkedBlock, WalkedBranches}
 use Rattle.explain.proofs.Measures.{stmt_measure, stmts_measure, stmt_lighter}
-use Rattle.explain.proofs.WalkedStatements.{entered_stmt, block_walked, set_field_known, if_walked, while_walked, taken_known, branches_walked, start_stmts, more_stmts, end_stmts}
+use Rattle.explain.proofs.WalkedStatements.{entered_stmt, block_walked, set_field_known, if_walked, while_walked, taken_walked, branches_walked, start_stmts, more_stmts, end_stmts}
 use Rattle.explain.proofs.walk.+statements.Goals as goal
 
 pub walk_stmt-returns : goal.walk_stmt-returns
@@ -99,16 +104,27 @@ inside_stmt-returns-in_ok-turn-in-While g t c =
     (while_walked P rel A e s H loop c.args.place c.seq-in-While-2.result c.requires one other
     (c.seq-in-While-2.ensures ∙ ap (λ z. seq_of c.in_ok-test-in-While.test z) (c.star.ensures ∙ ap star_of c.seq-in-While.ensures)))
 
-pub inside_stmt-returns-in_ok-note_lock-in-Sync : goal.inside_stmt-returns-in_ok-note_lock-in-Sync
-inside_stmt-returns-in_ok-note_lock-in-Sync g t c =
+pub inside_stmt-returns-in-Sync : goal.inside_stmt-returns-in-Sync
+inside_stmt-returns-in-Sync g t c =
     let P = program_of c.args.walk.now.program.now in let rel = rel_of c.args.walk.now.sets.now in let A = g.A.Assigned.assigned c.args.walk.now.assigned.now in
-    let H = has_path c.args.held.now in let loop = c.args.looped in let old = c.args.found.now in
-    let s = stmt_of c.in-Sync.a.value in
-    let mid = c.walk_stmt-in-Sync.new.found in
-    let w = subst (λ ps. WalkedStmt P rel A s (has_path ps) loop old c.in_ok-taken-in-Sync.taken mid) (c.as_slice-in-Sync.ensures.value ∙ c.in_ok-more-in-Sync.ensures)
-    (subst (λ z. WalkedStmt P rel A (stmt_of z) (has_path c.as_slice-in-Sync.result.now) loop old c.in_ok-taken-in-Sync.taken mid) c.deref-in-Sync.ensures c.in_ok-taken-in-Sync.ensures) in
-    taken_known P rel A (stmt_of c.args.s.now) c.in-Sync.path s H loop c.args.place c.note_lock.new.found c.lift.result (ap stmt_of c.in-Sync.is) (sym c.has.ensures ∙ c.if-has.false) c.requires w
-    c.note_lock.ensures.basics c.in_ok-note_lock-in-Sync.ensures.steps c.in_ok-note_lock-in-Sync.ensures.heavy c.lift.ensures
+    let H = has_path c.args.held.now in let loop = c.args.looped in let old = c.args.found.now in let new = c.walk_sync.new.found in
+    let s = stmt_of c.deref-in-Sync.result.now in
+    let whole : stmt_of c.args.s.now ≡ SyncS c.in-Sync.path s = ap stmt_of c.in-Sync.is ∙ ap (λ z. SyncS c.in-Sync.path (stmt_of z)) (sym c.deref-in-Sync.ensures) in
+    IfOk-weaker c.walk_sync.result (λ b. StmtP (stmt_of c.args.s.now) ≡ StmtP (SyncS c.in-Sync.path s) → InsideStmt P rel A (SyncS c.in-Sync.path s) c.args.place H loop old b new) (λ b. InsideStmt P rel A (stmt_of c.args.s.now) c.args.place H loop old b new)
+    (λ b w. subst (λ z. InsideStmt P rel A z c.args.place H loop old b new) (sym whole) (w (ap StmtP whole)))
+    c.walk_sync.ensures
+
+pub walk_sync-returns : goal.walk_sync-returns
+walk_sync-returns g t c =
+    let P = program_of c.args.walk.now.program.now in let rel = rel_of c.args.walk.now.sets.now in let A = g.A.Assigned.assigned c.args.walk.now.assigned.now in
+    let H = has_path c.args.reached.held.now in let loop = c.args.reached.looped in let old = c.args.found.now in let n = c.args.reached.node in
+    let s = stmt_of c.args.a.now in
+    let mid = c.walk_stmt-2.new.found in
+    let w = subst (λ ps. WalkedStmt P rel A s (has_path ps) loop old c.in_ok-taken.taken mid) (c.as_slice.ensures.value ∙ c.in_ok-more.ensures) c.in_ok-taken.ensures in
+    λ part. taken_walked P rel A c.args.path.now s H loop n c.note_lock.new.found c.lift.result (sym c.has.ensures ∙ c.if-has.false) c.requires w
+    c.note_lock.ensures.basics
+    (c.in_ok-note_lock.ensures.steps ∙ ap (λ (p : Part). visits_of mid.steps.items ++ (if below_of c.in_ok-taken.taken Mover then visit n p H loop else [])) part)
+    (c.in_ok-note_lock.ensures.heavy ∙ ap (λ (p : Part). visits_of mid.heavy.items ++ visit n p H loop) part) c.lift.ensures
 
 pub walk_branches-returns : goal.walk_branches-returns
 walk_branches-returns g t c =

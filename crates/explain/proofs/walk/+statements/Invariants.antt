@@ -18,6 +18,9 @@ decreases-inside_stmt g l = stmt_measure (stmt_of l.s.now)
 abbrev pub decreases-walk_branches : goal.decreases-walk_branches
 decreases-walk_branches g l = 2 + (stmt_measure (stmt_of l.a.now) + stmt_measure (stmt_of l.b.now))
 
+abbrev pub decreases-walk_sync : goal.decreases-walk_sync
+decreases-walk_sync g l = 2 + stmt_measure (stmt_of l.a.now)
+
 abbrev pub decreases-walk_block : goal.decreases-walk_block
 decreases-walk_block g l = stmts_measure (stmts_from l.body.now)
 
