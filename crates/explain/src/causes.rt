@@ -17,7 +17,7 @@ use crate::names::{Alias, Lack, lack_of, name_at_call, passed_expr, second_name}
 use crate::walk::Walk;
 use algebra::has;
 use core_program::{CoreExpr, CoreProgram, CoreStmt, path_of};
-use effects::held_under;
+use effects::{Called, held_under};
 use paths::{FieldId, MethodId, Path};
 use rules::{Guard, guard_at, required_of};
 use std::alloc::AllocError as NoMemory;
@@ -124,20 +124,12 @@ fn first_lacking<'r>(required: &'r [Path], known: &[Path]) -> Option<&'r Path>
     None
 }
 
-/// A call: the receiver, the method that is called, the arguments.
-#[derive(Clone, Copy)]
-struct Call<'e> {
-    receiver: &'e CoreExpr,
-    callee: MethodId,
-    args: &'e [CoreExpr],
-}
-
 /// What is wrong with a call that begins its callee without this path, or with all that are required.
 fn lacking(
     program: &CoreProgram,
     aliases: &[Alias],
     held: &[Path],
-    call: Call<'_>,
+    call: Called<'_>,
     path: Option<&Path>,
 ) -> Cause
     ensures { result ≡ call_cause (program_of program.now) aliases.now (has_path held.now) (expr_of call.entry.receiver.now) call.entry.callee (exprs_from call.entry.args.now) (option_copied path.entry) }
@@ -169,22 +161,14 @@ fn call_cause<A>(
     ensures { IfOk result (λ cause. let P = program_of walk.now.program.now in let e = expr_of receiver.now in let es = exprs_from args.now in
         cause ≡ call_cause P aliases.now (has_path held.now) e callee es (first_lacking P (rel_of walk.now.sets.now) (has_path held.now) e callee es)) }
 {
-    let known = held_under(
-        walk.alloc,
-        walk.program,
-        walk.sets,
-        receiver,
-        callee,
-        args,
-        held,
-    )?;
-    let paths = required_of(walk.program, callee);
-    let path = first_lacking(paths, known.as_slice());
-    let call = Call {
+    let call = Called {
         receiver,
         callee,
         args,
     };
+    let known = held_under(walk.alloc, walk.program, walk.sets, &call, held)?;
+    let paths = required_of(walk.program, callee);
+    let path = first_lacking(paths, known.as_slice());
     Ok(lacking(walk.program, aliases, held, call, path))
 }
 

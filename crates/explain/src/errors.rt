@@ -142,15 +142,12 @@ fn is_own_expr<A: Assigned>(
 {
     match e {
         CoreExpr::Call(receiver, callee, args) => {
-            let known = held_under(
-                walk.alloc,
-                walk.program,
-                walk.sets,
+            let call = Called {
                 receiver,
-                *callee,
-                args.as_slice(),
-                held,
-            )?;
+                callee: *callee,
+                args: args.as_slice(),
+            };
+            let known = held_under(walk.alloc, walk.program, walk.sets, &call, held)?;
             Ok(!has_all(known.as_slice(), required_of(walk.program, *callee)))
         }
         _ => Ok(true),

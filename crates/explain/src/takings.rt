@@ -159,15 +159,7 @@ fn first_taken<A: Assigned>(
         callee,
         args,
     } = *call;
-    let known = held_under(
-        walk.alloc,
-        walk.program,
-        walk.sets,
-        receiver,
-        callee,
-        args,
-        held,
-    )?;
+    let known = held_under(walk.alloc, walk.program, walk.sets, call, held)?;
     let renaming = renaming_at(walk.alloc, walk.program, walk.sets, receiver, callee, args)?;
     'pairs: for (path, name) in renaming.pairs.as_slice() {
         if let Some(name) = name {
