@@ -7,8 +7,9 @@ last) and of examples/README.md (a file, the lines, the status), the blocks of l
 blocks in docs/machine.md and docs/levels.md that begin with a command line. Where crates/atomic_cli has a test of the
 examples, it is held against examples/as_test.py. The book that `derive` writes of each accepted example has to be
 good, and changed books of it are refused with their lines. Each file that README.md and the documents name has to be
-there. Where there is an `atomic_why`, as the scripts of tools/ find it, check_tools.py then does the same for what
-they make; where there is an `atomic-java`, check_java.py does it for Java. The exit status is 0 where all of them hold.
+there. Where there are an `atomic_why` and an `atomic_witness`, as the scripts of tools/ find them, check_tools.py then
+does the same for what these make; where there is an `atomic-java`, check_java.py does it for Java. The exit status is
+0 where all of them hold.
 """
 from __future__ import annotations
 
@@ -202,7 +203,8 @@ def main() -> None:
     checker.books()
     print(f"{checker.count} answers, {checker.wrong} wrong")
     tools = check_tools.checked(program)
-    print("there is no atomic_why" if tools is None else f"{tools[0]} answers of scripts, {tools[1]} wrong")
+    lacking = "there is no atomic_why or no atomic_witness"
+    print(lacking if tools is None else f"{tools[0]} answers of scripts, {tools[1]} wrong")
     java = check_java.checked()
     print("there is no atomic-java" if java is None else f"{java[0]} rows and commands with Java, {java[1]} wrong")
     sys.exit(1 if checker.wrong or tools and tools[1] or java and java[1] else 0)

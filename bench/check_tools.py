@@ -6,7 +6,7 @@ It needs chromium for nothing: each picture in docs/ holds the digest of the pag
 (bench/pictures.py). Vim, git, make and parallel are left out where they aren't there, and that is said. The exit
 status is 0 where all is as the documents say.
 
-check_docs.py does the same by itself where there is an `atomic_why`.
+check_docs.py does the same by itself where there are an `atomic_why` and an `atomic_witness`.
 """
 from __future__ import annotations
 
@@ -60,7 +60,8 @@ class ToolsChecker:
         self.bin, self.examples = os.path.join(folder, "bin"), os.path.join(folder, "examples")
         os.mkdir(self.bin)
         shutil.copytree(EXAMPLES, self.examples)
-        links = {"atomic": atomic, "atomic_why": why, **{name: os.path.join(TOOLS, name) for name in SCRIPTS}}
+        links = {"atomic": atomic, "atomic_why": why, "atomic_witness": program("atomic_witness") or ""}
+        links.update({name: os.path.join(TOOLS, name) for name in SCRIPTS})
         for name, path in links.items():
             os.symlink(os.path.abspath(path), os.path.join(self.bin, name))
         self.environment = {
@@ -276,7 +277,8 @@ class ToolsChecker:
     # Examples.
 
     def witnesses(self) -> None:
-        """Each refused example has a witness where one is found, and no other has."""
+        """Each refused example has a witness, or a schedule of which nothing is decided, where one is found, and no
+        other has."""
         for name in sorted(os.listdir(EXAMPLES)):
             stem, ending = os.path.splitext(name)
             if ending != ".java":
@@ -284,7 +286,8 @@ class ToolsChecker:
             status, text, _ = self.run(f"atomic-witness {name}")
             path = os.path.join(EXAMPLES, stem + ".witness")
             kept = read("examples", stem + ".witness") if os.path.exists(path) else None
-            self.expect(f"examples/{stem}.witness", text if status == 0 else None, kept)
+            has_schedule = any(line and not line.startswith("#") for line in text.split("\n"))
+            self.expect(f"examples/{stem}.witness", text if status < 2 and has_schedule else None, kept)
             if kept is not None:
                 self.expect(f"examples/{stem}.witness runs", 0, self.run(f"atomic run {name} {stem}.witness")[0])
 
@@ -338,7 +341,7 @@ class ToolsChecker:
 
     def all(self) -> tuple[int, int]:
         self.commands("README.md")
-        for name in ("tutorial.md", "repairs.md", "why.md", "editors.md", "many.md"):
+        for name in ("tutorial.md", "repairs.md", "why.md", "editors.md", "many.md", "witness.md"):
             self.commands("docs", name)
         for check in (
             self.manuals,
@@ -360,9 +363,10 @@ class ToolsChecker:
 
 
 def checked(atomic: str, why: Optional[str] = None) -> Optional[tuple[int, int]]:
-    """How many answers of the scripts were looked at, and how many were wrong; None where there is no `atomic_why`."""
+    """How many answers of the scripts were looked at, and how many were wrong; None where a program that they ask isn't
+    there."""
     why = why or program("atomic_why")
-    if why is None:
+    if why is None or program("atomic_witness") is None:
         return None
     with tempfile.TemporaryDirectory() as folder:
         return ToolsChecker(os.path.abspath(atomic), os.path.abspath(why), folder).all()
@@ -377,7 +381,7 @@ def main() -> None:
     given = words.parse_args()
     found = checked(given.program, given.why)
     if found is None:
-        sys.exit("there is no atomic_why")
+        sys.exit("there is no atomic_why or no atomic_witness")
     print(f"{found[0]} answers of scripts, {found[1]} wrong")
     sys.exit(1 if found[1] else 0)
 

@@ -52,11 +52,13 @@ newest() {
 programs() {
     ATOMIC=${ATOMIC-$(newest atomic_cli atomic_cli atomic-unproved)}
     ATOMIC_WHY=${ATOMIC_WHY-$(newest atomic_why atomic_why atomic-why-unproved)}
-    if [ -z "$ATOMIC" ] || [ -z "$ATOMIC_WHY" ]; then
-        bench/quick.sh atomic why || return 1
+    ATOMIC_WITNESS=${ATOMIC_WITNESS-$(newest atomic_witness atomic_witness atomic-witness-unproved)}
+    if [ -z "$ATOMIC" ] || [ -z "$ATOMIC_WHY" ] || [ -z "$ATOMIC_WITNESS" ]; then
+        bench/quick.sh atomic why witness || return 1
         ATOMIC=$top/crates/atomic_cli/out/atomic-unproved ATOMIC_WHY=$top/crates/atomic_why/out/atomic-why-unproved
+        ATOMIC_WITNESS=$top/crates/atomic_witness/out/atomic-witness-unproved
     fi
-    export ATOMIC ATOMIC_WHY
+    export ATOMIC ATOMIC_WHY ATOMIC_WITNESS
 }
 
 run_unittest() {

@@ -145,7 +145,8 @@ class Order:
         run = Run(source, path, asked.schedule)
         self.cells = Cells(run)
         run.look(self.cells.bounds)
-        self.steps, self.calls, self.states = run.steps, run.calls, [run.states[bound] for bound in self.cells.bounds]
+        self.steps, self.calls, self.last = run.steps, run.calls, run.states[len(asked.schedule)]
+        self.states = [run.placed[bound] for bound in self.cells.bounds]
         self.commits = {call.commit for call in self.calls} if asked.accepted else set()
         self.threads = sorted({step.thread for step in self.steps})
 

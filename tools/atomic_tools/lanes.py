@@ -5,22 +5,18 @@ cell's line, kind and change are read by `machine`, and every front's state was 
 """
 from __future__ import annotations
 
-import collections
 import json
 import os
 import re
 
 from .cells import SIGNS, Asked, Order
 from .command import Failed
-from .endings import end_of, endings
-from .machine import Machine
 from .markup import json_inside, samp, script, tag, text
-from .programs import Written, atomic, expected
+from .orders import InOrder, NoOrders, differing, nearest, orders_of
+from .programs import Written, atomic, expected, has_witness, witness_told
 from .schedules import read_schedule, written
-from .search import MOST_STATES, InOrder, NoWitness, orders_of
 from .source import Source
 from .states import Stuck
-from .witness import order_name
 
 # more columns show first what other threads can see; longer orders aren't written out, and longer tables not made
 MOST_UNFOLDED, MOST_WRITTEN, MOST_ROWS = 60, 400, 2000
@@ -35,12 +31,17 @@ GROUPS = [("Objects and locks", ("object ", "lock ")), ("Threads", ("thread ",))
 
 
 def state_lists(lines: list[str]) -> str:
-    """A state in lists, each line as the program wrote it."""
+    """A state in lists, each line as the program wrote it, with the source's lines at which threads stand."""
     out = []
     for name, words in GROUPS:
-        rows = [tag("li", samp(line)) for line in lines if line.startswith(words)]
+        rows = [tag("li", shown(line)) for line in lines if line.startswith(words)]
         out.append(tag("section", tag("h3", name), tag("ul", *rows)))
     return "".join(out)
+
+
+def shown(line: str) -> str:
+    words, _, place = line.partition("\t")
+    return samp(words) + (" " + tag("small", place) if place else "")
 
 
 def entries_of(file: str, path: str) -> tuple[list[int], str]:
@@ -136,38 +137,49 @@ class Schedule:
         told = json.dumps({"orders": orders, "lines": list(lines)}, separators=(",", ":"))
         return script("const runs = " + json_inside(told) + ";")
 
-    # Of a refused source: the orders of the threads, one after the other.
+    # Of a refused source: the verdict, and the ends of the threads one after the other.
 
     def ends(self) -> str:
-        """Where the schedule ends, beside the ends of the orders of the threads one after the other."""
+        """What is told of the schedule, and how its end differs from the nearest ends of the threads in order."""
         if self.accepted or self.stopped:
             return ""
+        head = tag("h3", "Whether it breaks a promise")
+        return head + verdict_of(self.file, self.path) + self.beside()
+
+    def beside(self) -> str:
         try:
             orders = orders_of(self.source, self.file)
-        except (NoWitness, Stuck) as reason:
+        except (NoOrders, Stuck) as reason:
             return tag("p", text(f"No orders of the threads to compare with: {reason}."), class_="what")
-        mine = self.orders[0].states[-1]
-        others = [one.ran.state.split("\n")[:-1] for one in orders]
-        told = [end_beside("this schedule", mine, others[0])]
-        told += [end_beside(order_name(one.order), state, mine) for one, state in zip(orders, others)]
-        head = tag("h3", "Where it ends, and where the threads one after the other end")
-        return head + tag("div", *told, class_="ends") + self.conclusion(orders)
+        mine = self.orders[0].last
+        near = nearest(mine, orders)
+        rows = differing([mine, *(one.lines for one in near)])
+        if not rows:
+            return tag("p", "The threads one after the other end so, too.", class_="what")
+        head = tag("h3", "Where its end differs from those of the threads one after the other")
+        names = ["this schedule", *(one.name() for one in near)]
+        told = [end_beside(name, [row[place] for row in rows], place == 0) for place, name in enumerate(names)]
+        return head + tag("div", *told, class_="ends") + left_out(orders, near)
 
-    def conclusion(self, orders: list[InOrder]) -> str:
-        machine = Machine(self.source)
-        machine.run(self.schedule)
-        end = end_of(machine)
-        if end in {one.ran.end for one in orders}:
-            return tag("p", "An order of the threads ends so too: the schedule shows nothing.", class_="what")
-        words = "No order of the threads ends so."
-        found = endings(self.source, MOST_STATES)
-        if found is None:
-            return tag("p", words, class_="what")
-        if end in found[0]:
-            other = " But another schedule does that interrupts no atomic call: this one shows nothing."
-            return tag("p", words + other, class_="what")
-        words += f" Nor does any other schedule that interrupts no atomic call ({found[1]} states)."
-        return tag("p", tag("strong", words + " So a promise is broken, and not only unproved."))
+
+def verdict_of(file: str, path: str) -> str:
+    """The line that `atomic_witness` writes of the schedule, or the order that it found."""
+    if not has_witness():
+        return tag("p", "There is no atomic_witness to tell it.", class_="what")
+    reply = witness_told(file, path)
+    line = tag("p", samp(expected(reply, 0, 2, 5, 16).strip()), class_="line")
+    if reply[0] == 2:
+        return line + tag("p", tag("strong", "So a promise is broken, and not only unproved."))
+    if reply[0] == 0:
+        words = "This order interrupts no atomic call and leaves the same: the schedule breaks nothing."
+        return line + tag("p", words, class_="what")
+    return line
+
+
+def left_out(orders: list[InOrder], near: list[InOrder]) -> str:
+    """How many of the orders are shown."""
+    words = f"Of {len(orders)} orders the nearest ends are shown, and of these the lines that differ."
+    return tag("p", words, class_="what") if near else ""
 
 
 def button_of(number: int, order: Order) -> str:
@@ -175,12 +187,9 @@ def button_of(number: int, order: Order) -> str:
     return tag("button", text(order.name), type="button", data_show=number, aria_pressed=pressed)
 
 
-def end_beside(name: str, lines: list[str], other: list[str]) -> str:
-    """A state, with a mark at the lines that the other one hasn't."""
-    left, rows = collections.Counter(other), []
-    for line in lines:
-        rows.append(tag("li", samp(line), class_=None if left[line] > 0 else "changed"))
-        left[line] -= 1
+def end_beside(name: str, lines: list[str], is_marked: bool) -> str:
+    """Some lines of a state, which are marked or aren't."""
+    rows = [tag("li", samp(line), class_="changed" if is_marked and line else None) for line in lines]
     return tag("section", tag("h3", name), tag("ul", *rows))
 
 

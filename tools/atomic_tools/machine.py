@@ -159,6 +159,14 @@ class Machine:
             lines.append(f"thread {number} {thread.status}{where}")
         return lines
 
+    def line_of(self, number: int) -> Optional[int]:
+        """The source's line of the next step of a thread that runs."""
+        thread = self.threads[number]
+        if thread.status != "running":
+            return None
+        frame = thread.frames[-1]
+        return self.source.place(frame.code.items[frame.place].at)[0]
+
     def inside(self, number: int) -> bool:
         """Whether the thread stands inside an atomic call."""
         return any(frame.method.atomic for frame in self.threads[number].frames)

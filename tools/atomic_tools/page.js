@@ -95,13 +95,16 @@ document.documentElement.classList.add("live");
 // The slider: the state after so many columns, as the program wrote it.
 const slider = document.getElementById("front");
 
-function listOf(words, now, before) {
+// Behind a tab stands the source's line at which a thread stands, which is the page's own reading.
+function listOf(kinds, now, before) {
   const list = document.createElement("ul");
-  for (const line of now.filter(line => words.some(word => line.startsWith(word)))) {
+  for (const line of now.filter(line => kinds.some(kind => line.startsWith(kind)))) {
     const item = document.createElement("li"), shown = document.createElement("samp");
-    shown.textContent = line;
+    const [words, where] = line.split("\t");
+    shown.textContent = words;
     item.classList.toggle("changed", !before.includes(line));
     item.append(shown);
+    if (where) item.append(" ", Object.assign(document.createElement("small"), { textContent: where }));
     list.append(item);
   }
   return list;

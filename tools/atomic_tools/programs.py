@@ -1,8 +1,8 @@
-"""Runs `atomic` and `atomic_why`, and hands on what they write.
+"""Runs `atomic`, `atomic_why` and `atomic_witness`, and hands on what they write.
 
-The programs are those that the environment names (ATOMIC, ATOMIC_WHY); else those that stand in crates/ of the
-checkout that this package stands in, proved or not; else those in the path. What is read is told as it was written:
-nothing here judges.
+The programs are those that the environment names (ATOMIC, ATOMIC_WHY, ATOMIC_WITNESS); else those that stand in
+crates/ of the checkout that this package stands in, proved or not; else those in the path. What is read is told as it
+was written: nothing here judges.
 """
 from __future__ import annotations
 
@@ -19,7 +19,7 @@ from .trees import Book
 
 HERE = os.path.dirname(os.path.realpath(__file__))
 CRATES = os.path.join(HERE, "..", "..", "crates")
-CRATE_OF = {"atomic": "atomic_cli", "atomic_why": "atomic_why"}
+CRATE_OF = {"atomic": "atomic_cli", "atomic_why": "atomic_why", "atomic_witness": "atomic_witness"}
 
 Reply = tuple[int, str]
 
@@ -55,6 +55,15 @@ def atomic_why(*words: str) -> Reply:
 
 def has_why() -> bool:
     return program("atomic_why") is not None
+
+
+def witness_told(path: str, schedule_path: str) -> Reply:
+    """What `atomic_witness` tells of a schedule of a source."""
+    return ran("atomic_witness", (path, schedule_path))
+
+
+def has_witness() -> bool:
+    return program("atomic_witness") is not None
 
 
 class Written:

@@ -5,6 +5,7 @@
     run.calls           the outermost atomic calls
     run.look(fronts)
     run.states[N]       the lines that `atomic run` writes of the first N entries, for each N of the fronts
+    run.placed[N]       the same, and behind a tab the source's line at which a thread stands that runs
 
 `look` compares the state of each front as this machine has it with the program's, and ends in `Failed` where they
 differ.
@@ -75,6 +76,7 @@ class Run:
         self.steps = Machine(source).run(schedule)
         self.calls = calls_of(self.steps)
         self.states: dict[int, list[str]] = {}
+        self.placed: dict[int, list[str]] = {}
 
     def look(self, fronts: Iterable[int]) -> None:
         """Asks the program for the state of each of these fronts, and compares it with this machine's."""
@@ -87,3 +89,11 @@ class Run:
             if state != machine.text():
                 raise Failed(f"the steps as these scripts read them aren't the program's: entry {count}")
             self.states[count] = state.split("\n")[:-1]
+            self.placed[count] = [placed(line, machine) for line in self.states[count]]
+
+
+def placed(line: str, machine: Machine) -> str:
+    """A line of the machine's state, with the source's line at which a thread stands that runs."""
+    words = line.split()
+    at = machine.line_of(int(words[1])) if words[0] == "thread" else None
+    return line if at is None else f"{line}\tline {at}"

@@ -1,30 +1,27 @@
 """Schedules with one switch that show what a refused method does wrong.
 
 `atomic_why` names the first step of the method that can't be moved. One thread goes up to behind that step, another
-one runs from its begin to its end, and the first goes on. That schedule is run, and so is each order of the threads
-one after the other; the threads are those that `main` starts. Where no such order ends in the same way, and no other
-schedule without an interrupted atomic call does, the schedule is a witness. Which ends are the same is said in
-`endings`.
+one runs from its begin to its end, and the first goes on. Where that ends as no order of the threads one after the
+other does, `atomic_witness` is asked whether it breaks a promise. It has the last word.
 """
 from __future__ import annotations
 
 import itertools
 import re
-from collections.abc import Iterable, Iterator
+from collections.abc import Iterator
 from dataclasses import dataclass
 from typing import NamedTuple, Optional
 
-from .command import Failed
-from .endings import end_of, endings
 from .lines import Fact
 from .machine import Machine
+from .orders import InOrder, NoOrders, begun, lines_of, orders_of, to_the_end
 from .parts import Part
-from .runs import state_after
+from .programs import Written, expected, witness_told
 from .schedules import written
 from .source import Source
 from .states import LEFT, Step, Stuck
 
-MOST_TIMES, MOST_THREADS, MOST_STEPS, MOST_STATES = 200, 5, 100_000, 20_000
+MOST_TIMES, MOST_ASKED, MOST_UNDECIDED = 200, 20, 3
 
 # a line that leads to the explanation of another method
 DEEPER = re.compile(r"(?:compound step: calls )?(\S+?)(?:, which is | overrides it, and is )")
@@ -32,21 +29,6 @@ DEEPER = re.compile(r"(?:compound step: calls )?(\S+?)(?:, which is | overrides 
 
 class NoWitness(Exception):
     """This method has no such schedule: the text says why."""
-
-
-class Ran(NamedTuple):
-    """A schedule that was run: its entries, the state that the program writes, and its end as it is compared."""
-
-    schedule: list[int]
-    state: str
-    end: str
-
-
-class InOrder(NamedTuple):
-    """The threads one after the other."""
-
-    order: tuple[int, ...]
-    ran: Ran
 
 
 class Switch(NamedTuple):
@@ -61,15 +43,21 @@ class Switch(NamedTuple):
 
 @dataclass
 class Witness:
-    """A schedule with one switch, and the orders of the threads that it is held against."""
+    """A schedule with one switch, the line at which it leaves the first thread, what `atomic_witness` tells of it, and
+    the orders of the threads beside it."""
 
     method: Fact
     step: Fact
     switch: Switch
-    ran: Ran
+    schedule: list[int]
+    line: Optional[int]
+    status: int
+    told: str
     orders: list[InOrder]
-    # how many states schedules without an interrupted call have; None where these are too many
-    looked: Optional[int]
+
+    @property
+    def is_broken(self) -> bool:
+        return self.status == 2
 
 
 def is_behind(step: Step, part: Part) -> bool:
@@ -84,32 +72,6 @@ def is_behind(step: Step, part: Part) -> bool:
 # Schedules.
 
 
-def to_the_end(machine: Machine, thread: int, schedule: list[int]) -> list[Step]:
-    """The thread goes on to its end; its steps."""
-    steps = []
-    while machine.threads[thread].status in ("ready", "running"):
-        steps.append(machine.step(thread))
-        schedule.append(thread)
-        if len(schedule) > MOST_STEPS:
-            raise NoWitness(f"thread {thread} takes more than {MOST_STEPS} steps")
-    return steps
-
-
-def begun(source: Source) -> tuple[Machine, list[int], range]:
-    """The machine behind the end of `main`, the schedule so far, and the threads that it started."""
-    schedule: list[int] = []
-    machine = Machine(source)
-    to_the_end(machine, 0, schedule)
-    threads = range(1, len(machine.threads))
-    if not threads:
-        raise NoWitness("main starts no thread")
-    if len(threads) < 2:
-        raise NoWitness("main starts one thread alone")
-    if len(threads) > MOST_THREADS:
-        raise NoWitness(f"main starts more than {MOST_THREADS} threads")
-    return machine, schedule, threads
-
-
 def times_of(source: Source, thread: int, part: Part) -> list[int]:
     """How many steps the thread has taken, alone, each time that it is behind the part."""
     machine, schedule, _ = begun(source)
@@ -117,36 +79,25 @@ def times_of(source: Source, thread: int, part: Part) -> list[int]:
     return [count for count, step in enumerate(steps, 1) if is_behind(step, part)]
 
 
-def switched(source: Source, switch: Switch) -> tuple[list[int], Machine]:
+class Switched(NamedTuple):
+    """A schedule with a switch: its entries, the machine at its end, and the line at which the first thread is left."""
+
+    schedule: list[int]
+    machine: Machine
+    line: Optional[int]
+
+
+def switched(source: Source, switch: Switch) -> Switched:
     """The first thread takes so many steps, the second all of its own, the first goes on, and the others follow."""
     machine, schedule, threads = begun(source)
     for _ in range(switch.steps):
         machine.step(switch.first)
         schedule.append(switch.first)
+    line = machine.line_of(switch.first)
     others = [thread for thread in threads if thread not in (switch.first, switch.second)]
     for thread in [switch.second, switch.first, *others]:
         to_the_end(machine, thread, schedule)
-    return schedule, machine
-
-
-def orders_of(source: Source, path: str) -> list[InOrder]:
-    """The threads one after the other, in every order, with the states that the program writes."""
-    _, _, threads = begun(source)
-    found = []
-    for order in itertools.permutations(threads):
-        machine, schedule, _ = begun(source)
-        for thread in order:
-            to_the_end(machine, thread, schedule)
-        found.append(InOrder(order, agreed(path, schedule, machine)))
-    return found
-
-
-def agreed(path: str, schedule: list[int], machine: Machine) -> Ran:
-    """A schedule with the program's state of it, which is this machine's too."""
-    state = state_after(path, written(schedule))
-    if state != machine.text():
-        raise Failed("the steps as this script reads them aren't the program's")
-    return Ran(schedule, state, end_of(machine))
+    return Switched(schedule, machine, line)
 
 
 def candidates(source: Source, part: Part) -> Iterator[Switch]:
@@ -159,26 +110,6 @@ def candidates(source: Source, part: Part) -> Iterator[Switch]:
         for first, second in itertools.permutations(threads, 2):
             if time < len(counts[first]):
                 yield Switch(first, second, time + 1, counts[first][time])
-
-
-class Ends:
-    """How the threads end one after the other; and, as soon as an end isn't among these, how all schedules end that
-    interrupt no atomic call."""
-
-    def __init__(self, source: Source, orders: Iterable[InOrder]) -> None:
-        self.source, self.known, self.is_whole = source, {found.ran.end for found in orders}, False
-        self.looked: Optional[int] = None
-
-    def has(self, machine: Machine) -> bool:
-        """Whether it is one of these; a state with a fault counts as one, since the threads didn't all end."""
-        end = end_of(machine)
-        if end in self.known or any(thread.status.startswith("faulted") for thread in machine.threads):
-            return True
-        if not self.is_whole:
-            self.is_whole, found = True, endings(self.source, MOST_STATES)
-            if found is not None:
-                self.known, self.looked = self.known | found[0], found[1]
-        return end in self.known
 
 
 # Methods.
@@ -197,36 +128,82 @@ def first_step(why: list[Fact], groups: list[list[Fact]]) -> Fact:
     return why[1]
 
 
+class Asking:
+    """The schedules of one method that are tried, and what is told of those whose ends are new."""
+
+    def __init__(self, source: Source, path: str, why: Fact, step: Fact) -> None:
+        self.source, self.path, self.why, self.step = source, path, why, step
+        self.orders = orders_of(source, path)
+        self.known = {tuple(order.lines) for order in self.orders}
+        self.tried, self.asked, self.waits = 0, 0, ""
+        self.undecided: list[Witness] = []
+
+    def is_new(self, machine: Machine) -> bool:
+        """Whether no schedule before ends so. A state with a fault is none, since the threads didn't all end."""
+        end = tuple(lines_of(machine.text()))
+        if end in self.known or any(thread.status.startswith("faulted") for thread in machine.threads):
+            return False
+        self.known.add(end)
+        return True
+
+    def ask(self, switch: Switch) -> Optional[Witness]:
+        """The schedule of a switch, where it may break a promise: what the program tells of it."""
+        try:
+            schedule, machine, line = switched(self.source, switch)
+        except Stuck as stuck:
+            self.waits = f"; with another one a thread {stuck}"
+            return None
+        self.tried += 1
+        if not self.is_new(machine):
+            return None
+        with Written(written(schedule)) as name:
+            status, text = witness_told(self.path, name)
+        told = expected((status, text), 0, 2, 16).strip()
+        return Witness(self.why, self.step, switch, schedule, line, status, told, self.orders)
+
+    def first(self, switches: Iterator[Switch]) -> Witness:
+        """The first schedule that breaks a promise; else the first of which nothing is decided."""
+        for switch in switches:
+            found = self.ask(switch)
+            if found is not None and found.is_broken:
+                return found
+            if found is not None and found.status == 16:
+                self.undecided.append(found)
+            self.asked += found is not None
+            if self.asked == MOST_ASKED or len(self.undecided) == MOST_UNDECIDED:
+                break
+        if self.undecided:
+            return self.undecided[0]
+        raise NoWitness(
+            f"{self.tried} schedules with one switch were run, and each ends as one does that interrupts no atomic "
+            f"call{self.waits}"
+        )
+
+
 def witness(source: Source, path: str, why: list[Fact], groups: list[list[Fact]]) -> Witness:
-    """The first schedule with one switch that no order of the threads explains."""
+    """The first schedule with one switch that breaks a promise."""
     step = first_step(why, groups)
     part = source.part_at(source.offset(step.line, step.column))
     if part is None:
         raise NoWitness(f"no part stands at {step.line}:{step.column}")
-    orders = orders_of(source, path)
-    ends, tried, waits = Ends(source, orders), 0, ""
-    for switch in candidates(source, part):
-        try:
-            schedule, machine = switched(source, switch)
-        except Stuck as stuck:
-            waits = f"; with another one a thread {stuck}"
-            continue
-        tried += 1
-        if not ends.has(machine):
-            return Witness(why[0], step, switch, agreed(path, schedule, machine), orders, ends.looked)
-    raise NoWitness(
-        f"{tried} schedules with one switch were run, and each ends as one does that interrupts no atomic call{waits}"
-    )
+    switches = candidates(source, part)
+    return Asking(source, path, why[0], step).first(switches)
 
 
 def first_witness(source: Source, path: str, groups: list[list[Fact]]) -> tuple[Optional[Witness], list[str]]:
-    """The first refused method with a witness, and the reasons why those before it have none."""
+    """The first refused method with a witness, else with a schedule of which nothing is decided; and the reasons why
+    methods have none."""
     reasons: list[str] = []
+    undecided: list[Witness] = []
     for why in groups:
         if why[0].word != "error":
             continue
         try:
-            return witness(source, path, why, groups), reasons
-        except (NoWitness, Stuck) as reason:
+            found = witness(source, path, why, groups)
+        except (NoWitness, NoOrders, Stuck) as reason:
             reasons.append(f"{why[0].text}: {reason}")
-    return None, reasons
+            continue
+        if found.is_broken:
+            return found, reasons
+        undecided.append(found)
+    return (undecided[0] if undecided else None), reasons

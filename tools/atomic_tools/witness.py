@@ -1,7 +1,8 @@
 """The command `atomic-witness`: a schedule that shows what a refused method does wrong, where one switch shows it.
 
-The states of the schedule and of the orders are those that `atomic run` writes. Which steps a thread takes for a
-statement, and how all other schedules end, are these scripts' own reading of the machine (docs/machine.md).
+Whether it breaks a promise is the word of `atomic_witness`, and the states are those that `atomic run` writes. Which
+steps a thread takes for a statement, and so at which line the schedule leaves it, is these scripts' own reading of
+the machine (docs/machine.md).
 """
 from __future__ import annotations
 
@@ -11,7 +12,9 @@ from typing import NoReturn, Optional
 
 from .command import Answer, escaped, run, with_output, words_of
 from .escapes import warnings_of
+from .orders import differing, lines_of, nearest
 from .programs import explanations, judged
+from .runs import state_after
 from .schedules import written
 from .search import Witness, first_witness
 from .source import Source
@@ -20,24 +23,21 @@ ABOUT = """Writes a schedule that shows what a refused method does wrong, where 
         it.
 
         `atomic_why` names the first step of the method that can't be moved. One thread goes up to behind that step,
-        another one runs from its begin to its end, and the first goes on. It is a witness where neither the threads
-        one after the other, in any order, nor any other schedule that interrupts no atomic call prints the same, ends
-        its threads in the same way, and leaves the same objects to whoever can reach them. Then the promise is
-        broken, and not only unproved.
+        another one runs from its begin to its end, and the first goes on. Where that ends as no order of the threads
+        one after the other does, `atomic_witness` is asked. It tells whether a promise is broken, or whether some
+        schedule that interrupts no atomic call ends so.
 
 What it shows stands in comments, so `atomic run FILE` takes the text as a schedule."""
-BEHIND = """The status is 0 where the promise is broken, 1 where no such schedule shows it, 2 where no method is
-         refused or the words are wrong, and 3 where something failed. That there is no such schedule doesn't mean
-         that the method keeps its promise."""
-# so many orders of the threads are shown beside the schedule
-MOST_SHOWN = 3
+BEHIND = """The status is 0 where a promise is broken, 1 where no such schedule shows it or `atomic_witness` decides
+         nothing, 2 where no method is refused or the words are wrong, and 3 where something failed. That there is no
+         such schedule doesn't mean that the method keeps its promise."""
 
 
 def beside(columns: list[list[str]]) -> list[str]:
     """Columns of lines beside each other."""
-    width = max(len(line) for column in columns for line in column)
+    widths = [max(map(len, column)) for column in columns]
     rows = itertools.zip_longest(*columns, fillvalue="")
-    return ["  ".join(f"{cell:{width}}" for cell in row).rstrip() for row in rows]
+    return ["  ".join(f"{cell:{width}}" for cell, width in zip(row, widths)).rstrip() for row in rows]
 
 
 def ordinal(number: int) -> str:
@@ -45,52 +45,43 @@ def ordinal(number: int) -> str:
     return f"{number}{ending}"
 
 
-def order_name(order: tuple[int, ...]) -> str:
-    return "thread " + ", then ".join(map(str, order))
-
-
-def told(found: Witness) -> list[str]:
+def told(found: Witness, path: str) -> list[str]:
     """What the schedule shows."""
     first, second, time, _ = found.switch
     step = found.step
     again = "" if time == 1 else f", for the {ordinal(time)} time"
-    columns = [["this schedule ends in", "", *lines_of(found.ran.state)]]
-    columns += [[order_name(one.order), "", *lines_of(one.ran.state)] for one in found.orders[:MOST_SHOWN]]
+    stands = "" if found.line is None else f", and stands at line {found.line}"
     return [
         found.method.text,
         f"{escaped(step.file)}:{step.line}:{step.column}: {step.text}",
         "",
-        f"main runs; thread {first} goes up to behind that step{again}; thread {second} runs to its end; "
+        f"main runs; thread {first} goes up to behind that step{again}{stands}; thread {second} runs to its end; "
         f"thread {first} goes on",
         "",
-        *beside(columns),
+        *ends(found, path),
         "",
-        f"No order of the threads, of {len(found.orders)}, ends so.",
-        *conclusion(found.looked),
+        found.told,
     ]
 
 
-def conclusion(looked: Optional[int]) -> list[str]:
-    if looked is None:
-        return ["Other schedules without an interrupted atomic call weren't all looked at: they have too many states."]
-    return [
-        f"Nor does any other schedule that interrupts no atomic call: they have {looked} states between calls.",
-        "So the promise is broken, and not only unproved.",
-    ]
-
-
-def lines_of(state: str) -> list[str]:
-    return state.split("\n")[:-1]
+def ends(found: Witness, path: str) -> list[str]:
+    """Where the end of the schedule differs from the nearest ends of the threads one after the other."""
+    mine = lines_of(state_after(path, written(found.schedule)))
+    near = nearest(mine, found.orders)
+    heads = ["this schedule ends in", *(one.name() for one in near)]
+    rows = differing([mine, *(one.lines for one in near)])
+    columns = [[head, "", *(row[place] for row in rows)] for place, head in enumerate(heads)]
+    return [*beside(columns), "", f"No order of the threads, of {len(found.orders)}, ends so."]
 
 
 def comments(lines: list[str]) -> str:
     return "".join(f"# {line}".rstrip() + "\n" for line in lines)
 
 
-def report(found: Optional[Witness], reasons: list[str]) -> str:
+def report(found: Optional[Witness], reasons: list[str], path: str) -> str:
     if found is None:
         return comments(reasons or ["no method is refused"])
-    return comments(reasons + told(found)) + written(found.ran.schedule) + "\n"
+    return comments(reasons + told(found, path)) + written(found.schedule) + "\n"
 
 
 def command(words: argparse.Namespace) -> Answer:
@@ -102,7 +93,8 @@ def command(words: argparse.Namespace) -> Answer:
         data = file.read()
     found, reasons = first_witness(Source(data), words.file, groups)
     warnings = [f"{escaped(fact.file)}:{fact.shown()}" for fact in warnings_of(words.file, data)]
-    return Answer(report(found, warnings + reasons), 0 if found else 1, words.output)
+    status = 0 if found is not None and found.is_broken else 1
+    return Answer(report(found, warnings + reasons, words.file), status, words.output)
 
 
 def main(given: Optional[list[str]] = None) -> NoReturn:

@@ -8,7 +8,7 @@ import tempfile
 import unittest
 from typing import NamedTuple, Optional
 
-from atomic_tools.programs import program
+from atomic_tools.programs import CRATE_OF, program
 
 TOOLS = os.path.dirname(os.path.dirname(os.path.abspath(__file__)))
 TOP = os.path.dirname(TOOLS)
@@ -47,7 +47,7 @@ class Ended(NamedTuple):
 
 def run(words: list[str], folder: str, given: Optional[bytes] = None, more: Optional[dict[str, str]] = None) -> Ended:
     """A program, with the proved ones in its environment."""
-    known = {name.upper(): found for name in ("atomic", "atomic_why") for found in [program(name)] if found}
+    known = {name.upper(): found for name in CRATE_OF for found in [program(name)] if found}
     environment = {**os.environ, **known, **(more or {})}
     done = subprocess.run(words, cwd=folder, env=environment, input=given or b"", capture_output=True, check=False)
     return Ended(

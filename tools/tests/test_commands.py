@@ -23,6 +23,8 @@ class Writer implements Runnable { final Shared s; Writer(Shared s) { this.s = s
 class Main { void main() { final Shared s = new Shared();
     new Thread(new Reader(s)).start(); new Thread(new Writer(s)).start(); } }
 """
+# refused, and kept nevertheless: what a thread reads twice nobody changes
+TWICE = READS.replace(b"this.s.v = 1", b"System.out.println(this.s.v)") % b""
 
 
 class Words(InFolder):
@@ -213,12 +215,18 @@ class Witnesses(InFolder):
         self.write("f.java", READS % b"System.out.println(box.first - box.second);")
         status, text, _ = self.run_tool("atomic-witness", "f.java")
         self.assertEqual(0, status)
-        self.assertIn("# So the promise is broken, and not only unproved.\n", text)
+        self.assertIn("\n# broken: no schedule that interrupts no atomic call prints this\n", text)
         self.write("schedule", text.encode())
         self.assertIn('class="lanes"', self.run_tool("atomic-page", "f.java", "schedule").text)
 
-    def test_an_object_that_nobody_reaches_shows_nothing(self) -> None:
+    def test_what_differs_in_objects_alone_says_so(self) -> None:
         self.write("f.java", READS % b"")
+        status, text, _ = self.run_tool("atomic-witness", "f.java")
+        self.assertEqual(0, status)
+        self.assertIn("\n# broken: no schedule that interrupts no atomic call leaves this\n", text)
+
+    def test_a_schedule_with_an_order_shows_nothing(self) -> None:
+        self.write("f.java", TWICE)
         status, text, _ = self.run_tool("atomic-witness", "f.java")
         self.assertEqual(1, status)
         self.assertIn("each ends as one does that interrupts no atomic call", text)

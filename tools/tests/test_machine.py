@@ -1,10 +1,10 @@
-"""The machine of these scripts, what counts as the same end, and the search through schedules."""
+"""The machine of these scripts, and how ends differ from each other."""
 from __future__ import annotations
 
 import unittest
 
-from atomic_tools.endings import end_of, endings
 from atomic_tools.machine import Machine
+from atomic_tools.orders import InOrder, differing, nearest
 from atomic_tools.runs import calls_of
 from atomic_tools.source import Source
 from atomic_tools.states import Stuck
@@ -17,16 +17,6 @@ class Main { void main() {
     final Counter c = new Counter();
     new Thread(new Worker(c)).start();
     new Thread(new Worker(c)).start(); } }
-"""
-# a promise that is broken only in an object that nobody can reach
-LOST = b"""class Box { int n; }
-class Worker implements Runnable {
-    public void run() { this.work(); }
-    atomic void work() { final Box box = new Box(); %s } }
-class Main { void main() {
-    final Worker worker = new Worker();
-    new Thread(worker).start();
-    new Thread(worker).start(); } }
 """
 DIVIDED = (
     b"class Main { void main() { System.out.println(-7 / 2); System.out.println(-7 % 2); System.out.println(1 / 0); } }"
@@ -63,6 +53,12 @@ class Machines(unittest.TestCase):
                 machine.step(2)
         self.assertFalse(machine.can_step(2))
 
+    def test_a_thread_that_runs_stands_at_a_line(self) -> None:
+        machine = Machine(Source(COUNTER))
+        self.assertIsNone(machine.line_of(0))
+        machine.step(0)
+        self.assertEqual(6, machine.line_of(0))
+
     def test_a_schedule_tells_the_entry_that_cannot_step(self) -> None:
         with self.assertRaisesRegex(Stuck, "^entry 2: thread 7 is absent$"):
             Machine(Source(COUNTER)).run([0, 7])
@@ -75,30 +71,20 @@ class Machines(unittest.TestCase):
         self.assertEqual((True, "left"), (calls[0].whole, steps[calls[0].commit or 0].kind))
 
 
-class SameEnds(unittest.TestCase):
-    def test_objects_that_nobody_reaches_do_not_count(self) -> None:
-        one, two = ended(LOST % b"box.n = 1;"), ended(LOST % b"box.n = 2;")
-        self.assertNotEqual(one.text(), two.text())
-        self.assertEqual(end_of(one), end_of(two))
+class Ends(unittest.TestCase):
+    def test_lines_are_shown_where_states_differ(self) -> None:
+        one = ["print 1", "object 0:0 Main", "object 0:1 Counter n=1", "thread 0 done"]
+        two = ["print 1", "print 2", "object 0:0 Main", "object 0:1 Counter n=2", "thread 0 done"]
+        wanted = [["", "print 2"], ["object 0:1 Counter n=1", "object 0:1 Counter n=2"]]
+        self.assertEqual(wanted, differing([one, two]))
 
-    def test_objects_that_somebody_reaches_count(self) -> None:
-        two = COUNTER.replace(b"this.n + 1", b"this.n + 2")
-        self.assertNotEqual(end_of(ended(COUNTER)), end_of(ended(two)))
+    def test_equal_states_differ_nowhere(self) -> None:
+        self.assertEqual([], differing([["print 1"], ["print 1"]]))
 
-    def test_numbers_of_objects_do_not_count(self) -> None:
-        later = COUNTER.replace(b"final Counter c = new", b"new Counter(); final Counter c = new")
-        self.assertNotEqual(ended(COUNTER).text(), ended(later).text())
-        self.assertEqual(end_of(ended(COUNTER)), end_of(ended(later)))
-
-    def test_what_is_printed_counts(self) -> None:
-        self.assertNotEqual(
-            end_of(ended(LOST % b"System.out.println(1);")), end_of(ended(LOST % b"System.out.println(2);"))
-        )
-
-    def test_all_ends_are_met(self) -> None:
-        found = endings(Source(COUNTER), 1000)
-        self.assertEqual({end_of(ended(COUNTER))}, found and found[0])
-        self.assertIsNone(endings(Source(COUNTER), 1))
+    def test_the_nearest_ends_are_shown_each_once(self) -> None:
+        ends = [(1, 9), (3, 7), (3, 7), (1, 7)]
+        orders = [InOrder((one, 2), [f"print {one}", f"print {other}"]) for one, other in ends]
+        self.assertEqual([orders[3], orders[0], orders[1]], nearest(["print 1", "print 7"], orders))
 
 
 if __name__ == "__main__":
