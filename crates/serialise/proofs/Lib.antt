@@ -7,12 +7,6 @@ mod SeenFrames
 pub mod Running
 pub mod Endings
 -- Lemmas on the open order.
-mod Parts
-mod Turns
-mod Lasts
-mod Moves
-mod Together
-mod Neighbours
 mod Gathered
 mod ToldUnits
 mod Spreads
