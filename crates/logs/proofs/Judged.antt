@@ -5,6 +5,8 @@ use Rattle.std.proofs.lemmas.Bool.{eqb-true, eq-eqb}
 use Rattle.state.specs.declared.value.StepKind.{StepKind}
 use Rattle.semantics.specs.Units.{Entry, is_commit}
 use Rattle.semantics.specs.Words.{fits_phase, FitPhases}
+use Rattle.open_order.specs.Gathering.{open_from, IsGatheredOrder, AreUnitsTogether}
+use Rattle.open_order.proofs.Gathered.{gathered, units_gathered}
 use Rattle.reduction.specs.Serial.{IsSerialOrder}
 use Rattle.reduction.specs.Systems.{Steps, run_then, system_run_from, system_entry_then, system_entries_from, written_from}
 use Rattle.reduction.proofs.Phases.{phases_words}
@@ -167,4 +169,17 @@ module _ (guard : ℕ → Guard) where
       → IsSerialOrder (logs guard) (memory_before nothing_known lines) (order_of lines) (written_from (logs guard) (memory_before nothing_known lines) (order_of lines)) (memory_before end [])
   judged_serial lines end is closed =
       written (logs_move guard) (order_of lines) (memory_before nothing_known lines) (memory_before end []) tt (judged_run lines nothing_known end is) (λ t there. ap (λ n. not (n == 0)) (closed t))
+      (phases_words (system_entries_from (logs guard) (memory_before nothing_known lines) 0 (order_of lines)) (λ t. false) (judged_fits lines nothing_known end 0 is))
+
+  -- a log that is judged to its end, also where it is cut off inside blocks
+  pub judged_gathers : (lines : List LogLine) (end : Known) → judged guard nothing_known lines ≡ Goes end
+      → IsGatheredOrder (logs guard) (memory_before nothing_known lines) (order_of lines) (open_from (logs guard) (memory_before nothing_known lines) (order_of lines)) (memory_before end [])
+  judged_gathers lines end is =
+      gathered (logs_move guard) (order_of lines) (memory_before nothing_known lines) (memory_before end []) tt (judged_run lines nothing_known end is)
+      (phases_words (system_entries_from (logs guard) (memory_before nothing_known lines) 0 (order_of lines)) (λ t. false) (judged_fits lines nothing_known end 0 is))
+
+  pub judged_units : (lines : List LogLine) (end : Known) → judged guard nothing_known lines ≡ Goes end
+      → AreUnitsTogether (logs guard) (memory_before nothing_known lines) (open_from (logs guard) (memory_before nothing_known lines) (order_of lines))
+  judged_units lines end is =
+      units_gathered (logs_move guard) (order_of lines) (memory_before nothing_known lines) (memory_before end []) tt (judged_run lines nothing_known end is)
       (phases_words (system_entries_from (logs guard) (memory_before nothing_known lines) 0 (order_of lines)) (λ t. false) (judged_fits lines nothing_known end 0 is))

@@ -1,6 +1,7 @@
 //! Laws of logs.
 
 ghost use Rattle.std.specs.Prelude.{◌≡◌, ℕ, List, [], Some, None, slice_get};
+ghost use Rattle.open_order.specs.Gathering.{open_from, IsGatheredOrder, AreUnitsTogether};
 ghost use Rattle.reduction.specs.Movers.{HasMovers};
 ghost use Rattle.reduction.specs.Serial.{NobodyInside, IsSerialOrder};
 ghost use Rattle.reduction.specs.Systems.{system_run_from, system_entries_from, written_from};
@@ -30,6 +31,15 @@ pub fn judged_logs_are_serial()
     ensures serial { (guard : ℕ → Guard) (lines : List LogLine) (k : Known) → judged guard nothing_known lines ≡ Goes k → ((t : ℕ) → k.depth t ≡ 0) → IsSerialLog lines }
     ensures written { (guard : ℕ → Guard) (lines : List LogLine) (k : Known) → judged guard nothing_known lines ≡ Goes k → ((t : ℕ) → k.depth t ≡ 0) →
         IsSerialOrder (logs guard) (memory_before nothing_known lines) (order_of lines) (written_from (logs guard) (memory_before nothing_known lines) (order_of lines)) (memory_before k []) }
+{}
+
+/// A log that is judged to its end may be cut off inside blocks. Whatever is guessed of the guards, its open order keeps each block
+/// in one piece: each thread does what it did, each read sees the value that it saw, and the end is the same.
+pub fn cut_logs_gather()
+    ensures gathers { (guard : ℕ → Guard) (lines : List LogLine) (k : Known) → judged guard nothing_known lines ≡ Goes k →
+        IsGatheredOrder (logs guard) (memory_before nothing_known lines) (order_of lines) (open_from (logs guard) (memory_before nothing_known lines) (order_of lines)) (memory_before k []) }
+    ensures units { (guard : ℕ → Guard) (lines : List LogLine) (k : Known) → judged guard nothing_known lines ≡ Goes k →
+        AreUnitsTogether (logs guard) (memory_before nothing_known lines) (open_from (logs guard) (memory_before nothing_known lines) (order_of lines)) }
 {}
 
 /// Two threads count under a lock: the log is judged to its end. A block that takes the lock twice can be cut; and no read sees

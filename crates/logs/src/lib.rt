@@ -19,7 +19,7 @@ mod words;
 
 pub use guards::{Guard, Guards};
 pub use judge::{Judge, Refusal, Stop};
-pub use laws::{examples_of_logs, judged_logs_are_serial, logs_serialise};
+pub use laws::{cut_logs_gather, examples_of_logs, judged_logs_are_serial, logs_serialise};
 pub use laws_of_lines::lines_are_spelled;
 pub use laws_of_tables::numbers_tell_words_apart;
 pub use laws_of_walks::serial_texts_have_serial_logs;
