@@ -1,4 +1,5 @@
-//! Guesses of what guards places. The theorem of logs holds for any guess, so no contract says which one this is.
+//! What guards places: given in a text, or guessed from a log. The theorem of logs holds for any guards, so no contract says
+//! which ones are guessed.
 #![tactic(auto)]
 
 mod given;
