@@ -3,7 +3,7 @@ use Rattle.std.proofs.Common.{◌≡◌, ℕ, ◌<◌, List, Option, Some, None,
 use Rattle.edge.specs.Faults.{Rose}
 use Rattle.edge.specs.Lines.{cannot_read_line, too_large_line}
 use Rattle.trace_commands.specs.Lines.{fault_line, no_guards_kind}
-use Rattle.trace_commands.specs.Outcomes.{IsNamed, IsTraceOutcome, unread, changed, over, no_guards, longest_file}
+use Rattle.trace_commands.specs.Outcomes.{HasNoGuards, IsNamed, IsTraceOutcome, unread, changed, over, no_guards, longest_file}
 
 module _ (log : List ℕ) (guards : Option (List ℕ)) (told : List ℕ → Option (List ℕ)) (before now : List ℕ → ℕ) (status : ℕ) (text : List ℕ) where
   found_of : (n : ℕ) (line : List ℕ) → status ≡ n → text ≡ line → IsTraceOutcome log guards told before now n line → IsTraceOutcome log guards told before now status text
@@ -19,5 +19,5 @@ module _ (log : List ℕ) (guards : Option (List ℕ)) (told : List ℕ → Opti
       → IsTraceOutcome log guards told before now status text
   found_over name named large e is = found_of 10 (too_large_line name) e is (over name named large)
 
-  pub found_no_guards : (name : List ℕ) (line : ℕ) → guards ≡ Some name → status ≡ 1 → text ≡ fault_line name line no_guards_kind → IsTraceOutcome log guards told before now status text
-  found_no_guards name line named e is = found_of 1 (fault_line name line no_guards_kind) e is (no_guards name line named)
+  pub found_no_guards : (name : List ℕ) (line : ℕ) → guards ≡ Some name → HasNoGuards (told name) line → status ≡ 1 → text ≡ fault_line name line no_guards_kind → IsTraceOutcome log guards told before now status text
+  found_no_guards name line named none e is = found_of 1 (fault_line name line no_guards_kind) e is (no_guards name line named none)

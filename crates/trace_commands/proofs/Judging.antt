@@ -10,7 +10,7 @@ use Rattle.logs.specs.declared.walk.WalkEnd.TheVariants as ends
 use Rattle.logs.specs.Stops.{IsEnd}
 use Rattle.logs.specs.Walks.{Stand, WalkedTo, Stands, NoLine, Refused, front, walk_then, walked}
 use Rattle.logs.proofs.Walking.{walked_append}
-use Rattle.trace_commands.specs.Outcomes.{Answers, IsJudgedLog, IsGuessed, is_some_other, IsTraceOutcome}
+use Rattle.trace_commands.specs.Outcomes.{Answers, IsGivenBy, IsJudgedLog, IsGuessed, is_some_other, IsTraceOutcome}
 
 pub flipped : (told : Option (List ℕ)) (bytes : List ℕ) → IfSome told (λ file. file ≡ bytes) → IfSome told (λ file. bytes ≡ file)
 flipped None bytes is = tt
@@ -18,8 +18,8 @@ flipped (Some file) bytes is = sym is
 
 -- a log that was read whole
 pub whole : (guard : ℕ → Guard) (log : List ℕ) (told : Option (List ℕ)) (limit many : ℕ) (s : Stand) (status : ℕ) (text : List ℕ) → HasReadWhole guard told limit many s
-    → ((bytes : List ℕ) → walked guard front bytes ≡ Stands s → Answers guard log bytes status text) → IsJudgedLog log told status text
-whole guard log told limit many s status text read answers = record { guard = guard; bytes = read.bytes; its = flipped told read.bytes read.its; answers = answers read.bytes read.leads }
+    → ((bytes : List ℕ) → walked guard front bytes ≡ Stands s → Answers guard log bytes status text) → IsJudgedLog guard log told status text
+whole guard log told limit many s status text read answers = record { bytes = read.bytes; its = flipped told read.bytes read.its; answers = answers read.bytes read.leads }
 
 -- how far a judge comes, as it ended, by the bytes of a file that is told
 record Told (guard : ℕ → Guard) (told : Option (List ℕ)) (s : Stand) (end : WalkEnd) : Type 0 where
@@ -47,9 +47,9 @@ module _ (guard : ℕ → Guard) (s : Stand) where
 
   -- a log in which a judge stopped
   pub stopped : (log : List ℕ) (told : Option (List ℕ)) (end : WalkEnd) (w : WalkedTo) (status : ℕ) (text : List ℕ) → IsEnd s w end → HasStoppedInFile guard told w
-      → ((bytes : List ℕ) (far : WalkedTo) → walked guard front bytes ≡ far → IsEnd s far end → Answers guard log bytes status text) → IsJudgedLog log told status text
+      → ((bytes : List ℕ) (far : WalkedTo) → walked guard front bytes ≡ far → IsEnd s far end → Answers guard log bytes status text) → IsJudgedLog guard log told status text
   stopped log told end w status text is read answers = let t = told_by told end w is read in
-      record { guard = guard; bytes = t.bytes; its = t.its; answers = answers t.bytes t.far t.leads t.ends }
+      record { bytes = t.bytes; its = t.its; answers = answers t.bytes t.far t.leads t.ends }
 
 -- what is found by counts and bytes that are as before
 pub moved : (log : List ℕ) (guards : Option (List ℕ)) (told told' : List ℕ → Option (List ℕ)) (before before' now : List ℕ → ℕ) (status : ℕ) (text : List ℕ)
@@ -58,6 +58,10 @@ moved log guards told told' before before' now status text same calm found =
     let tells : told' ≡ told = λ i. λ name. same name i in
     let counts : before' ≡ before = λ i. λ name. calm name i in
     subst (λ t. IsTraceOutcome log guards t before now status text) tells (subst (λ b. IsTraceOutcome log guards told' b now status text) counts found)
+
+-- guards that are given by bytes that are as before
+pub given_then : (guards : Option (List ℕ)) (told told' : List ℕ → Option (List ℕ)) (guard : ℕ → Guard) → ((name : List ℕ) → told' name ≡ told name) → IsGivenBy guards told guard → IsGivenBy guards told' guard
+given_then guards told told' guard same given = let tells : told' ≡ told = λ i. λ name. same name i in subst (λ t. IsGivenBy guards t guard) (sym tells) given
 
 -- a log whose bytes are told has as many when it is read once more
 pub not_told : (guard : ℕ → Guard) (told : Option (List ℕ)) (limit many : ℕ) (s : Stand) (before : Option ℕ) → HasReadWhole guard told limit many s → IsGuessed told before → is_some_other before many ≡ true → told ≡ None

@@ -2,4 +2,5 @@ mod TraceCommandsAnswering
 mod Judging
 mod Found
 mod Ways
+mod Exactness
 mod Serials

@@ -1,5 +1,5 @@
 -- The sentence, from what was said.
-use Rattle.std.proofs.Common.{◌≡◌, inl, inr, ℕ, List, [], ◌∷◌, Option, Some, None, IfSome, sym, ◌∙◌, subst, arith}
+use Rattle.std.proofs.Common.{◌≡◌, inl, inr, ℕ, List, [], ◌∷◌, Option, Some, None, IfSome, refl, sym, ◌∙◌, subst, arith}
 use Rattle.logs.specs.Judging.{Refusal, HasEnded, NoBlock, Impossible, Cut}
 use Rattle.logs.specs.Logs.{Guard}
 use Rattle.logs.specs.Said.{SaidData}
@@ -13,12 +13,18 @@ use Rattle.trace_commands.specs.Outcomes.{IsTraceOutcome, unread, changed, over,
 use Rattle.trace_commands.specs.Sentence.{IsSerialFile}
 use Rattle.trace_commands.specs.Words.{NamesLog, guards_word}
 
--- words ask for one log
-same_log : (words : List (List ℕ)) (log named : List ℕ) (guards given : Option (List ℕ)) → NamesLog words log guards → NamesLog words named given → log ≡ named
+-- words ask for one log, and for one file of guards or none
+pub same_log : (words : List (List ℕ)) (log named : List ℕ) (guards given : Option (List ℕ)) → NamesLog words log guards → NamesLog words named given → log ≡ named
 same_log words log named None None row other = let both : log ∷ [] ≡ named ∷ [] = sym row ∙ other in cc
 same_log words log named None (Some g) row other = let both : log ∷ [] ≡ named ∷ guards_word ∷ g ∷ [] = sym row ∙ other in cc
 same_log words log named (Some f) None row other = let both : log ∷ guards_word ∷ f ∷ [] ≡ named ∷ [] = sym row ∙ other in cc
 same_log words log named (Some f) (Some g) row other = let both : log ∷ guards_word ∷ f ∷ [] ≡ named ∷ guards_word ∷ g ∷ [] = sym row ∙ other in cc
+
+pub same_guards : (words : List (List ℕ)) (log named : List ℕ) (guards given : Option (List ℕ)) → NamesLog words log guards → NamesLog words named given → guards ≡ given
+same_guards words log named None None row other = refl
+same_guards words log named None (Some g) row other = let both : log ∷ [] ≡ named ∷ guards_word ∷ g ∷ [] = sym row ∙ other in absurd cc
+same_guards words log named (Some f) None row other = let both : log ∷ guards_word ∷ f ∷ [] ≡ named ∷ [] = sym row ∙ other in absurd cc
+same_guards words log named (Some f) (Some g) row other = let both : log ∷ guards_word ∷ f ∷ [] ≡ named ∷ guards_word ∷ g ∷ [] = sym row ∙ other in cc
 
 no_zero : (why : Refusal) → refused_status why ≡ 0 → ⊥
 no_zero HasEnded e = omega (arith, e)
@@ -42,8 +48,8 @@ module _ (law : (guard : ℕ → Guard) (text : List ℕ) (s : Stand) → walked
   found_zero log guards told before now _ _ (unread name named rose) e = absurd (omega (arith, e))
   found_zero log guards told before now _ _ (changed none) e = absurd (omega (arith, e))
   found_zero log guards told before now _ _ (over name named large) e = absurd (omega (arith, e))
-  found_zero log guards told before now _ _ (no_guards name line is) e = absurd (omega (arith, e))
-  found_zero log guards told before now _ _ (judged status text j) e = at_zero j.guard log (told log) j.bytes status j.answers.line j.its j.answers.answer e
+  found_zero log guards told before now _ _ (no_guards name line is none) e = absurd (omega (arith, e))
+  found_zero log guards told before now _ _ (judged status text guard given j) e = at_zero guard log (told log) j.bytes status j.answers.line j.its j.answers.answer e
 
   status_zero : (status : ℕ) (text : List ℕ) (old new : Option (List ℕ)) (before now result : ℕ) → SaysText result status text old new before now → result ≡ 0 → status ≡ 0
   status_zero status text old new before now result (inl s) zero = sym s.0 ∙ zero

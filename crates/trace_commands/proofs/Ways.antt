@@ -1,5 +1,5 @@
 -- What is answered on each way.
-use Rattle.std.proofs.Common.{◌≡◌, ◌≢◌, ℕ, Bool, true, false, ◌==◌, ◌<◌, List, [], ◌++◌, inl, inr, Option, Some, length, Result, Ok, Err, IfOk, IfSome, MatchResult, IsErr, sym, ap, ◌∙◌, subst}
+use Rattle.std.proofs.Common.{◌≡◌, ◌≢◌, ℕ, Bool, true, false, ◌==◌, ◌<◌, ◌≤◌, List, [], ◌++◌, inl, inr, Option, Some, length, Result, Ok, Err, IfOk, IfSome, MatchResult, IsErr, sym, ap, ◌∙◌, subst}
 use Rattle.std.proofs.lemmas.Bool.{eqb-true, eqb-false}
 use Rattle.std.proofs.lemmas.List.{nil_from_length}
 use Rattle.edge.specs.Faults.{Rose}
@@ -20,7 +20,7 @@ use Rattle.trace_commands.specs.declared.answering.Outcome.{Outcome}
 use Rattle.trace_commands.specs.declared.guarding.Guarding.{Guarding}
 use Rattle.trace_commands.specs.declared.guarding.Guarding.TheVariants as guarding
 use Rattle.trace_commands.specs.Lines.{fault_line, no_line_kind, refused_kind, refused_status, open_kind}
-use Rattle.trace_commands.specs.Outcomes.{Answers, IsCountedLog, IsGuarding, IsGuessed, IsNamed, IsTraceOutcome, judged, longest_file}
+use Rattle.trace_commands.specs.Outcomes.{Answers, IsCountedLog, IsGivenBy, IsGuarding, IsGuardsText, IsGuessed, IsNamed, IsTraceOutcome, judged, longest_file}
 use Rattle.trace_commands.proofs.Found.{found_changed, found_unread, found_over}
 use Rattle.trace_commands.proofs.Judging.{flipped, moved, not_told, stopped as has_stopped}
 use Rattle.trace_commands.proofs.TraceCommandsAnswering.{cut_off_answers, no_line_answers, open_answers, refused_answers}
@@ -62,9 +62,9 @@ module _ {E : Type 0} (guard : ℕ → Guard) (log bytes : List ℕ) (s : Stand)
   refused_all (Err e) why end w what is leads ends = tt
 
 counted_ok : (log : List ℕ) (guards : Option (List ℕ)) (told : List ℕ → Option (List ℕ)) (before now : List ℕ → ℕ) (o : Outcome) (guard : ℕ → Guard) (limit many : ℕ) (s : Stand) (many_before : Option ℕ)
-    (read : HasReadWhole guard (told log) limit many s) → IsGuessed (told log) many_before → IsCountedLog guard log read.bytes many_before many o.status o.text.items → IsTraceOutcome log guards told before now o.status o.text.items
-counted_ok log guards told before now o guard limit many s many_before read guessed (inl is) = found_changed log guards told before now o.status o.text.items (not_told guard (told log) limit many s many_before read guessed is.0) is.1 is.2
-counted_ok log guards told before now o guard limit many s many_before read guessed (inr answers) = judged o.status o.text.items (record { guard = guard; bytes = read.bytes; its = flipped (told log) read.bytes read.its; answers = answers })
+    → IsGivenBy guards told guard → (read : HasReadWhole guard (told log) limit many s) → IsGuessed (told log) many_before → IsCountedLog guard log read.bytes many_before many o.status o.text.items → IsTraceOutcome log guards told before now o.status o.text.items
+counted_ok log guards told before now o guard limit many s many_before given read guessed (inl is) = found_changed log guards told before now o.status o.text.items (not_told guard (told log) limit many s many_before read guessed is.0) is.1 is.2
+counted_ok log guards told before now o guard limit many s many_before given read guessed (inr answers) = judged o.status o.text.items guard given (record { bytes = read.bytes; its = flipped (told log) read.bytes read.its; answers = answers })
 
 module _ {E : Type 0} (log : List ℕ) (guards : Option (List ℕ)) (told : List ℕ → Option (List ℕ)) (before now : List ℕ → ℕ) where
   pub unread_all : (result : Result Outcome E) (name : List ℕ) → IsNamed log guards name → Rose (before name) (now name)
@@ -85,19 +85,19 @@ module _ {E : Type 0} (log : List ℕ) (guards : Option (List ℕ)) (told : List
   ended_all (Ok o) (Err e) is found = tt
   ended_all (Err d) (Err e) is found = tt
 
-  pub counted_all : (result : Result Outcome E) (guard : ℕ → Guard) (limit many : ℕ) (s : Stand) (many_before : Option ℕ) → HasReadWhole guard (told log) limit many s → IsGuessed (told log) many_before
+  pub counted_all : (result : Result Outcome E) (guard : ℕ → Guard) (limit many : ℕ) (s : Stand) (many_before : Option ℕ) → IsGivenBy guards told guard → HasReadWhole guard (told log) limit many s → IsGuessed (told log) many_before
       → ((bytes : List ℕ) → walked guard front bytes ≡ Stands s → IfOk result (λ o. IsCountedLog guard log bytes many_before many o.status o.text.items))
       → IfOk result (λ o. IsTraceOutcome log guards told before now o.status o.text.items)
-  counted_all (Ok o) guard limit many s many_before read guessed counts = counted_ok log guards told before now o guard limit many s many_before read guessed (counts read.bytes read.leads)
-  counted_all (Err e) guard limit many s many_before read guessed counts = tt
+  counted_all (Ok o) guard limit many s many_before given read guessed counts = counted_ok log guards told before now o guard limit many s many_before given read guessed (counts read.bytes read.leads)
+  counted_all (Err e) guard limit many s many_before given read guessed counts = tt
 
-  pub stopped_all : (result : Result Outcome E) (guard : ℕ → Guard) (limit : ℕ) (s : Stand) (read : ReadEnd) (end : WalkEnd) → read ≡ reading.Walk end
+  pub stopped_all : (result : Result Outcome E) (guard : ℕ → Guard) (limit : ℕ) (s : Stand) (read : ReadEnd) (end : WalkEnd) → IsGivenBy guards told guard → read ≡ reading.Walk end
       → IsReadEnd guard (told log) limit (before log) (now log) s read
       → ((bytes : List ℕ) (w : WalkedTo) → walked guard front bytes ≡ w → IsEnd s w end → IfOk result (λ o. Answers guard log bytes o.status o.text.items))
       → IfOk result (λ o. IsTraceOutcome log guards told before now o.status o.text.items)
-  stopped_all (Ok o) guard limit s read end what ends answers = let is = subst (IsReadEnd guard (told log) limit (before log) (now log) s) what ends in
-      judged o.status o.text.items (has_stopped guard s log (told log) end is.0 o.status o.text.items is.1 is.2 answers)
-  stopped_all (Err e) guard limit s read end what ends answers = tt
+  stopped_all (Ok o) guard limit s read end given what ends answers = let is = subst (IsReadEnd guard (told log) limit (before log) (now log) s) what ends in
+      judged o.status o.text.items guard given (has_stopped guard s log (told log) end is.0 o.status o.text.items is.1 is.2 answers)
+  stopped_all (Err e) guard limit s read end given what ends answers = tt
 
   pub moved_all : (result : Result Outcome E) (told_then : List ℕ → Option (List ℕ)) (before_then : List ℕ → ℕ) → ((name : List ℕ) → told_then name ≡ told name) → ((name : List ℕ) → before_then name ≡ before name)
       → IfOk result (λ o. IsTraceOutcome log guards told_then before_then now o.status o.text.items) → IfOk result (λ o. IsTraceOutcome log guards told before now o.status o.text.items)
@@ -110,3 +110,7 @@ read_rose guard told limit before now s read what ends = subst (IsReadEnd guard 
 pub read_over : (guard : ℕ → Guard) (told : Option (List ℕ)) (limit before now : ℕ) (s : Stand) (read : ReadEnd) → read ≡ reading.TooLarge → IsReadEnd guard told limit before now s read
     → IfSome told (λ file. limit < length file)
 read_over guard told limit before now s read what ends = subst (IsReadEnd guard told limit before now s) what ends
+
+-- the text of a file of guards that was read whole
+pub given_text : (told : Option (List ℕ)) (read text : List ℕ) → text ≡ read → IfSome told (λ file. read ≡ file) → length read ≤ longest_file → IsGuardsText told text
+given_text told read text same its within = subst (IsGuardsText told) (sym same) (record { its = its; within = within })

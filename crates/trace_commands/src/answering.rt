@@ -9,7 +9,7 @@ ghost use Rattle.logs.specs.Walks.{Stands, WalkedTo, front, walked};
 ghost use Rattle.logs.specs.Logs.{Guard};
 ghost use Rattle.logs.specs.Views.{guards_data};
 ghost use Rattle.log_reading.specs.Reading.{IsReadEnd};
-ghost use Rattle.trace_commands.specs.Outcomes.{Answers, IsCountedLog, IsGuessed, is_some_other, IsTraceOutcome, longest_file};
+ghost use Rattle.trace_commands.specs.Outcomes.{Answers, IsCountedLog, IsGivenBy, IsGuessed, is_some_other, IsTraceOutcome, longest_file};
 
 use crate::lines::{fault_line, open_kind, refused_kind, refused_status};
 use crate::notes::{note_at_end, notes_on};
@@ -163,7 +163,7 @@ fn unended(
     guards: &Guards,
     end: ReadEnd,
 ) -> Result<Outcome, NoMemory>
-    ensures { (asked : Option (List ℕ)) (told : List ℕ → Option (List ℕ)) (before now : List ℕ → ℕ) →
+    ensures { (asked : Option (List ℕ)) (told : List ℕ → Option (List ℕ)) (before now : List ℕ → ℕ) → IsGivenBy asked told (guards_data guards.now) →
         IsReadEnd (guards_data guards.now) (told log.now) longest_file (before log.now) (now log.now) (stand_of walk.now) end →
         IfOk result (λ o. IsTraceOutcome log.now asked told before now o.status o.text.items) }
 {
@@ -185,7 +185,8 @@ fn answered<F: Folder>(
 ) -> Result<Outcome, NoMemory>
     requires guessed { IsGuessed (F.told folder.old log.now) before }
     requires start { stand_of walk.old ≡ front }
-    ensures { (asked : Option (List ℕ)) → IfOk result (λ o. IsTraceOutcome log.now asked (F.told folder.old) (F.faults folder.old) (F.faults folder.new) o.status o.text.items) }
+    ensures { (asked : Option (List ℕ)) → IsGivenBy asked (F.told folder.old) (guards_data guards.now) →
+        IfOk result (λ o. IsTraceOutcome log.now asked (F.told folder.old) (F.faults folder.old) (F.faults folder.new) o.status o.text.items) }
 {
     match walk_file(alloc, folder, log, LONGEST, guards, walk) {
         Ok(many) => counted(alloc, log, walk, before, many),
@@ -202,7 +203,8 @@ pub fn judged<F: Folder>(
     before: Option<u64>,
 ) -> Result<Outcome, NoMemory>
     requires { IsGuessed (F.told folder.old log.now) before }
-    ensures { (asked : Option (List ℕ)) → IfOk result (λ o. IsTraceOutcome log.now asked (F.told folder.old) (F.faults folder.old) (F.faults folder.new) o.status o.text.items) }
+    ensures { (asked : Option (List ℕ)) → IsGivenBy asked (F.told folder.old) (guards_data guards.now) →
+        IfOk result (λ o. IsTraceOutcome log.now asked (F.told folder.old) (F.faults folder.old) (F.faults folder.new) o.status o.text.items) }
 {
     let mut walk = Walk::new(alloc);
     answered(alloc, folder, log, guards, before, &mut walk)

@@ -1,6 +1,6 @@
 //! The guards by which a log is judged.
 ghost use Rattle.std.specs.Prelude.{◌≡◌, ℕ, List, Option, Some, None, IfOk, IsErr, MatchResult, option_map};
-ghost use Rattle.trace_commands.specs.Outcomes.{IsGuarding};
+ghost use Rattle.trace_commands.specs.Outcomes.{IsGuarding, IsGuardsText};
 
 use crate::answering::{LONGEST, Outcome, over, unread};
 use crate::lines::fault_line;
@@ -50,7 +50,7 @@ fn guessed<F: Folder>(alloc: Global, folder: &mut F, log: &str) -> Result<Guardi
 
 /// The guards that a text gives.
 fn given_in(alloc: Global, name: &str, text: &[u8]) -> Result<Guarding, NoMemory>
-    ensures { (log : List ℕ) (told : List ℕ → Option (List ℕ)) (before now : List ℕ → ℕ) → ((other : List ℕ) → now other ≡ before other) →
+    ensures { (log : List ℕ) (told : List ℕ → Option (List ℕ)) (before now : List ℕ → ℕ) → ((other : List ℕ) → now other ≡ before other) → IsGuardsText (told name.now) text.now →
         IfOk result (IsGuarding log (Some name.now) told before now) }
 {
     match read_guards(alloc, text) {

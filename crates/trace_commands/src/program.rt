@@ -3,6 +3,7 @@ ghost use Rattle.std.specs.Prelude.{◌≡◌, ◌⊎◌, ℕ, List, Option, map
 ghost use Rattle.std.specs.Io.KnownBytes.{Keeps};
 ghost use Rattle.edge.specs.Faults.{Rose};
 ghost use Rattle.edge.specs.Said.{SaysText};
+ghost use Rattle.trace_commands.specs.Exact.{IsAskedByText, IsExactByText, IsAskedAlone, IsExactAlone};
 ghost use Rattle.trace_commands.specs.Outcomes.{IsTraceOutcome, SaysOutcome};
 ghost use Rattle.trace_commands.specs.Sentence.{IsSerialFile};
 ghost use Rattle.trace_commands.specs.Words.{NamesLog, NamesNoLog, trace_usage_line};
@@ -44,6 +45,10 @@ pub fn run<F: Folder, K: Sink>(alloc: Global, words: &[String], folder: &mut F, 
     // Else what was found of the log was said, with its status; or a front of it, and the sink failed.
     ensures outcome { (log : List ℕ) (guards : Option (List ℕ)) → NamesLog (map string_bytes words.now) log guards → (result ≡ 8) ⊎
         SaysOutcome log guards (F.told folder.old) (F.faults folder.old) (F.faults folder.new) (K.written sink.old) (K.written sink.new) (K.faults sink.old) (K.faults sink.new) result }
+
+    // The files are told: each status comes exactly where it belongs to the bytes, with the guards that the file gives; with guesses, by some guards.
+    ensures exact { (log name bytes text : List ℕ) → IsAskedByText (map string_bytes words.now) (F.told folder.old) log name bytes text → IsExactByText text bytes result }
+    ensures guessed { (log bytes : List ℕ) → IsAskedAlone (map string_bytes words.now) (F.told folder.old) log bytes → IsExactAlone bytes result }
 
     // The sentence that the program is for, derived from these.
     ensures serial { (log : List ℕ) (guards : Option (List ℕ)) → NamesLog (map string_bytes words.now) log guards → result ≡ 0 → IsSerialFile (F.told folder.old log) }

@@ -1,11 +1,12 @@
 -- The file of guards is read, or can't be, or is too large.
 use Rattle.std.proofs.Common.{Some, Err, ap, inr, refl}
-use Rattle.trace_commands.proofs.Ways.{ended_all, over_all, unread_all}
+use Rattle.trace_commands.proofs.Ways.{ended_all, given_text, over_all, unread_all}
 use Rattle.trace_commands.proofs.guarding.given.Goals as goal
 
 pub returns-in-Ok-clause-guarding : goal.returns-in-Ok-clause-guarding
 returns-in-Ok-clause-guarding g c = λ log.
     c.given_in.ensures log (g.F.Folder.told c.args.folder.now) (g.F.Folder.faults c.args.folder.now) (g.F.Folder.faults c.read_file.new.folder) c.in-Ok.ensures.calm
+    (given_text (g.F.Folder.told c.args.folder.now c.args.name.now) c.in-Ok.bytes.items c.as_slice.result.now c.as_slice.ensures.value c.in-Ok.ensures.whole c.in-Ok.ensures.within)
 
 pub returns-in-Err-Fault-clause-guarding : goal.returns-in-Err-Fault-clause-guarding
 returns-in-Err-Fault-clause-guarding g c = λ log.
