@@ -1,5 +1,5 @@
 -- The bytes that are left begin with the one at which it ends.
-use Rattle.std.proofs.Common.{◌≡◌, ◌∷◌, ◌+◌, get_or, drop, ap, sym, ◌∙◌, subst}
+use Rattle.std.proofs.Common.{◌+◌, drop, ap, sym, ◌∙◌, subst}
 use Rattle.std.proofs.lemmas.List.{drop_more}
 use Rattle.log_guess.specs.Places.{guards_from, IsTextEnd}
 use Rattle.log_guess.proofs.given.Giving.feed.Goals as goal
