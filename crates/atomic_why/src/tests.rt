@@ -13,14 +13,24 @@ const LOCKED: &str =
 /// What is written for words that ask for nothing.
 const USAGE: &str = "usage: atomic_why FILE | --all FILE\n";
 
-/// Sources, each with its status and text: an error, two steps, a loop, a compound step with the method that it calls, an overriding
-/// method, a lock that would help around all of it, a callee whose lock is held but which an overriding method makes a step, a source
-/// that is refused as it stands, one that is accepted.
-static EXPLAINED: [(&str, u8, &str); 9] = [
+/// Sources, each with its status and text: an error, one behind which three methods are errors that call it, two steps, two of which one may
+/// stay, a loop, a compound step with the method that it calls, an overriding method, a lock that would help around all of it, a callee
+/// whose lock is held but which an overriding method makes a step, a source that is refused as it stands, one that is accepted.
+static EXPLAINED: [(&str, u8, &str); 11] = [
     (
         "class Main { int v guarded_by this; void main() { this.v = 7; } }",
         2,
         "a:1:42: error: Main.main is declared cmpd, found error [lock-error]\na:1:51: note: this.v is guarded by this, which isn't held here; held: nothing [guard-not-held]\n",
+    ),
+    (
+        "class Main { int a guarded_by this; void main() { this.f(); } void f() { this.a = 1; } void g() { this.f(); } void h() { this.f(); } }",
+        2,
+        "a:1:68: error: Main.f is declared cmpd, found error [lock-error]\na:1:74: note: this.a is guarded by this, which isn't held here; held: nothing [guard-not-held]\na:1:42: error: Main.main is declared cmpd, found error [lock-error]\na:1:56: note: calls Main.f, which is an error itself [calls-an-error]\na:1:56: note: 2 more methods are refused for a call of it [more-errors]\n",
+    ),
+    (
+        "class Main { int a guarded_by this; atomic void main() { synchronized (this) { this.a = 1; } System.out.println(1); System.out.println(2); } }",
+        2,
+        "a:1:49: error: Main.main is declared atomic, found cmpd [two-steps]\na:1:58: note: atomic step: takes the lock of this and gives it back [first-step]\na:1:94: note: a second one: prints [second-step]\na:1:94: note: between the two another thread may come in [gap-between]\na:1:58: note: with the lock of this held, this step can be moved [help-lock]\n",
     ),
     (
         "class Main { int u; atomic void main() { this.u = 1; this.u = 2; } }",

@@ -1,8 +1,9 @@
--- Explanations against the methods that break their bounds (Breaking), the least assignment that trees show (Leasts), the lines of methods
--- (Writing), the line of a source that isn't well-formed (Forms), what is answered to bytes (Stages), when it ends how (Endings), the clauses of the top call (Runs), and the
--- sentence (Telling).
+-- Explanations against the methods that break their bounds (Breaking), the least assignment that trees show (Leasts), that told methods
+-- are there (There), the lines of methods (Writing), the line of a source that isn't well-formed (Forms), what is answered to bytes
+-- (Stages), when it ends how (Endings), the clauses of the top call (Runs), and the sentence (Telling).
 mod Breaking
 mod Leasts
+mod There
 mod Writing
 mod Forms
 mod Stages

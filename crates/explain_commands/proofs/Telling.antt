@@ -5,7 +5,6 @@ use Rattle.lexer.specs.Limits.{longest_source}
 use Rattle.core_program.specs.Core.{Program}
 use Rattle.edge.specs.Faults.{Rose}
 use Rattle.explain.specs.Programs.{explanations}
-use Rattle.explain.specs.Whys.{ExplainedData}
 use Rattle.explain_text.specs.Pages.{PageData}
 use Rattle.edge.specs.Calls.{Call, HasNoFault}
 use Rattle.paths.specs.Paths.{PathData}
@@ -23,6 +22,8 @@ use Rattle.sources.specs.Files.{WritesText}
 use Rattle.syntax.specs.Trees.{ProgramTree}
 use Rattle.explain_commands.specs.declared.words.Order.TheVariants.{Why}
 use Rattle.explain_commands.specs.Answers.{ExplainAnswer, no_source, judged, IsJudgedProgram, pages_of}
+use Rattle.explain_text.proofs.Chosen.{all_counted}
+use Rattle.explain_text.specs.Arrangements.{ArrangedData, arranged}
 use Rattle.explain_commands.specs.Broken.{broken_methods, ending_for, IsProgramVerdict}
 use Rattle.explain_commands.specs.Explained.{AreTexts, none, more}
 use Rattle.explain_commands.specs.Sentence.{TellsBroken, ExplainsBroken}
@@ -49,7 +50,7 @@ as_rules P status LevelsRefused e v = absurd v
 as_rules P status CallTooDeep e v = absurd v
 
 -- no explanations have no lines
-no_lines : (P : Program) (rel : ℕ → List PathData) (A : Assignment) (pages : ℕ → PageData) (overs : ℕ → List ℕ) (xs : List ExplainedData) (text : List ℕ) → xs ≡ [] → AreTexts P rel A pages overs xs text → text ≡ []
+no_lines : (P : Program) (rel : ℕ → List PathData) (A : Assignment) (pages : ℕ → PageData) (overs : ℕ → List ℕ) (xs : List ArrangedData) (text : List ℕ) → xs ≡ [] → AreTexts P rel A pages overs xs text → text ≡ []
 no_lines P rel A pages overs _ _ e none = refl
 no_lines P rel A pages overs _ _ e (more x xs text rest one others) = absurd cc
 
@@ -69,14 +70,16 @@ module _ (call : Call) (name file : List ℕ) where
         text = text;
         texts = j.text_is.texts;
         written = written;
+        counts = all_counted P (rel_of j.sets) (explanations P (rel_of j.sets) j.assignment (row_at overs));
         methods = exactly_broken P (rel_of j.sets) j.assignment (row_at overs);
         above = all_above P j.sets j.assignment overs j.typed j.least.relevant j.least.least j.text_is.are_overs;
         reasons = all_reasons P j.sets j.assignment overs j.typed j.least.relevant j.least.least j.text_is.are_overs;
         causes = all_causes P j.sets j.assignment overs j.typed j.least.relevant j.least.least j.text_is.are_overs;
         refused = by_list.0;
         accepted = by_list.1;
-        silent = λ zero. no_lines P (rel_of j.sets) j.assignment (pages_of name file tree) (row_at overs) (explanations P (rel_of j.sets) j.assignment (row_at overs)) text
-            (nothing_explained P (rel_of j.sets) j.assignment (row_at overs) (by_list.1.0 zero)) j.text_is.texts;
+        silent = λ zero. no_lines P (rel_of j.sets) j.assignment (pages_of name file tree) (row_at overs)
+            (arranged P (rel_of j.sets) (explanations P (rel_of j.sets) j.assignment (row_at overs))) text
+            (ap (arranged P (rel_of j.sets)) (nothing_explained P (rel_of j.sets) j.assignment (row_at overs) (by_list.1.0 zero))) j.text_is.texts;
         inadmissible = by_rules.0;
         admissible = by_rules.1;
       }

@@ -17,6 +17,7 @@ use Rattle.sources.specs.Verdicts.{HasLeast}
 use Rattle.syntax.specs.Trees.{ProgramTree, MethodM}
 use Rattle.explain_commands.specs.declared.words.Order.{Order}
 use Rattle.explain_commands.specs.declared.words.Order.TheVariants.{Why, All}
+use Rattle.explain_text.specs.Arrangements.{arranged}
 use Rattle.explain_commands.specs.Broken.{broken_methods, ending_for, IsProgramVerdict}
 use Rattle.explain_commands.specs.Explained.{page_of, AreTexts}
 use Rattle.explain_commands.specs.Faults.{IsSourceFaultLine}
@@ -27,7 +28,7 @@ pub record Explains (P : Program) (rel : ℕ → List PathData) (A : Assignment)
   -- for each method those that override it
   pub overs : List (List ℕ)
   pub are_overs : AreOverriders P overs
-  pub texts : AreTexts P rel A pages (row_at overs) (explanations P rel A (row_at overs)) text
+  pub texts : AreTexts P rel A pages (row_at overs) (arranged P rel (explanations P rel A (row_at overs))) text
 
 -- the text that belongs to what is asked for
 abbrev pub IsText : Order → Program → (ℕ → List PathData) → Assignment → (ℕ → PageData) → List ℕ → Type 0

@@ -1,11 +1,11 @@
 -- The lines of explanations.
-use Rattle.std.specs.Prelude.{ℕ, ◌<◌, List, [], ◌∷◌, ◌++◌, Option, Some, None, slice_get}
+use Rattle.std.specs.Prelude.{ℕ, ◌<◌, List, [], ◌∷◌, ◌++◌, map, Option, Some, None, slice_get}
 use Rattle.classes.specs.Table.{TableData}
 use Rattle.core_program.specs.Core.{Program, Method}
 use Rattle.explain.specs.declared.names.Alias.{Alias}
 use Rattle.explain.specs.Names.{aliases_after}
 use Rattle.explain.specs.Whys.{ExplainedData}
-use Rattle.explain_text.specs.Blocks.{IsBlock}
+use Rattle.explain_text.specs.Arrangements.{ArrangedData, IsArrangedBlock}
 use Rattle.explain_text.specs.Pages.{PageData}
 use Rattle.paths.specs.Paths.{PathData}
 use Rattle.places.specs.Slots.{member_slots}
@@ -39,6 +39,10 @@ abbrev pub AreAmongMethods : ℕ → List ExplainedData → Type 0
 AreAmongMethods n [] = Unit {0}
 AreAmongMethods n (x ∷ xs) = (x.method < n) × AreAmongMethods n xs
 
+-- the explanations that are told
+abbrev pub told_of : List ArrangedData → List ExplainedData
+told_of xs = map (λ a. a.told) xs
+
 -- the final locals of a method's body that have paths; none of a method that isn't there
 abbrev pub aliases_at : Program → Option Method → List Alias
 aliases_at P None = []
@@ -46,10 +50,10 @@ aliases_at P (Some method) = aliases_after P [] method.body
 
 module _ (P : Program) (rel : ℕ → List PathData) (A : Assignment) (pages : ℕ → PageData) (overs : ℕ → List ℕ) where
   -- the lines of one method
-  abbrev pub IsMethodText : ExplainedData → List ℕ → Type 0
-  IsMethodText x text = IsBlock P rel A (pages x.method) overs (aliases_at P (slice_get P.methods x.method)) x text
+  abbrev pub IsMethodText : ArrangedData → List ℕ → Type 0
+  IsMethodText a text = IsArrangedBlock P rel A (pages a.told.method) overs (aliases_at P (slice_get P.methods a.told.method)) a text
 
   -- the lines of one method after the other
-  pub data AreTexts : List ExplainedData → List ℕ → Type 0 where
+  pub data AreTexts : List ArrangedData → List ℕ → Type 0 where
     none : AreTexts [] []
-    more : (x : ExplainedData) (xs : List ExplainedData) (text rest : List ℕ) → IsMethodText x text → AreTexts xs rest → AreTexts (x ∷ xs) (text ++ rest)
+    more : (a : ArrangedData) (xs : List ArrangedData) (text rest : List ℕ) → IsMethodText a text → AreTexts xs rest → AreTexts (a ∷ xs) (text ++ rest)

@@ -1,4 +1,4 @@
--- The sentence that the program is for: the lines are those of the explanations of exactly the methods whose bound the least closed
+-- The sentence that the program is for: each explanation is told or counted, of exactly the methods whose bound the least closed
 -- assignment breaks, and status 2 comes exactly where there is one; which is exactly where no assignment of atomicities is admissible.
 use Rattle.std.specs.Prelude.{◌≡◌, ◌≢◌, ◌↔◌, ℕ, ◌≤◌, false, List, [], ◌∷◌, Contains, Some, length, slice_get, ◌⊎◌}
 use Rattle.std.specs.Io.KnownBytes.{Appends}
@@ -22,6 +22,7 @@ use Rattle.sources.specs.Verdicts.{HasLeast}
 use Rattle.syntax.specs.Trees.{ProgramTree}
 use Rattle.explain.specs.Visits.{Visit}
 use Rattle.explain_commands.specs.Answers.{pages_of}
+use Rattle.explain_text.specs.Arrangements.{arranged, told_or_counted}
 use Rattle.explain_commands.specs.Broken.{broken_methods, refused_in}
 use Rattle.explain_commands.specs.Explained.{AreTexts}
 use Rattle.explain_commands.specs.Words.{all_word}
@@ -36,9 +37,11 @@ pub record TellsBroken (call : Call) (name file : List ℕ) (tree : ProgramTree)
   pub are_overs : AreOverriders P overs
   -- the lines are those of the explanations
   pub text : List ℕ
-  pub texts : AreTexts P (rel_of sets) assignment (pages_of name file tree) (row_at overs) (explanations P (rel_of sets) assignment (row_at overs)) text
+  pub texts : AreTexts P (rel_of sets) assignment (pages_of name file tree) (row_at overs) (arranged P (rel_of sets) (explanations P (rel_of sets) assignment (row_at overs))) text
   pub written : Appends call.written_before call.written_after text
-  -- which are those of exactly the methods whose bound the assignment breaks, in source order
+  -- each explanation is told, or counted at one that is told for the same error of a callee
+  pub counts : told_or_counted (arranged P (rel_of sets) (explanations P (rel_of sets) assignment (row_at overs))) ≡ length (explanations P (rel_of sets) assignment (row_at overs))
+  -- those of refused methods are of exactly the methods whose bound the assignment breaks, in source order
   pub methods : refused_in (explanations P (rel_of sets) assignment (row_at overs)) ≡ broken_methods P assignment
   -- each method that is told is more than it may be, also one to which another leads, and has a reason, which is so
   pub above : (x : ExplainedData) → Contains (explanations P (rel_of sets) assignment (row_at overs)) x → below_of x.found x.limit ≡ false

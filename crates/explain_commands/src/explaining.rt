@@ -3,10 +3,10 @@
 ghost use Rattle.std.specs.Prelude.{◌≡◌, ◌++◌, ◌<◌, ◌≤◌, ◌^◌, ℕ, List, IfOk, OnOk, length, map, slice_get, string_bytes};
 ghost use Rattle.classes.specs.Views.{table_data};
 ghost use Rattle.core_program.specs.Views.{program_of};
-ghost use Rattle.explain.specs.Views.{explained_data};
 ghost use Rattle.explain_commands.specs.Answers.{Explains};
-ghost use Rattle.explain_commands.specs.Explained.{AreTexts, AreAmongMethods, aliases_at, page_of};
-ghost use Rattle.explain_text.specs.Blocks.{IsBlock};
+ghost use Rattle.explain_text.specs.Arrangements.{IsArrangedBlock};
+ghost use Rattle.explain_text.specs.ArrangementViews.{arranged_data};
+ghost use Rattle.explain_commands.specs.Explained.{AreTexts, AreAmongMethods, aliases_at, page_of, told_of};
 ghost use Rattle.rules.specs.Near.{rel_of};
 ghost use Rattle.rules.specs.Search.{row_at};
 ghost use Rattle.syntax.specs.Views.{member_of};
@@ -14,8 +14,8 @@ ghost use Rattle.syntax.specs.Views.{member_of};
 use crate::told::Told;
 use core_program::CoreProgram;
 use effects::Assigned;
-use explain::{Alias, Explained, Walk, aliases, explanations};
-use explain_text::{Page, write_block};
+use explain::{Alias, Walk, aliases, explanations};
+use explain_text::{Arranged, Page, arrange, write_arranged};
 use paths::MethodId;
 use places::{method_places, slot_names};
 use rules::{OverridingMethods, overriders};
@@ -35,24 +35,25 @@ fn aliases_of(
     }
 }
 
-/// Adds the lines of a method.
+/// Adds the lines of a method, and how many more are errors for the same one.
 fn add_block<A: Assigned>(
     told: &Told<'_, '_, '_>,
     walk: &Walk<'_, A>,
     over: &OverridingMethods,
-    x: &Explained<'_>,
+    x: &Arranged<'_>,
     text: &mut String,
 ) -> Result<(), NoMemory>
-    requires { x.now.method < length told.now.methods.now.items }
+    requires { x.now.told.method < length told.now.methods.now.items }
     ensures { OnOk result ((lines : List ℕ) × (string_bytes text.new ≡ string_bytes text.old ++ lines)
-        × IsBlock (program_of walk.now.program.now) (rel_of walk.now.sets.now) (A.Assigned.assigned walk.now.assigned.now)
-        (page_of told.now.file.now told.now.index.now (table_data told.now.source.now.table) (map (λ m. member_of m.now) told.now.methods.now.items) x.now.method)
-        (row_at over.now) (aliases_at (program_of walk.now.program.now) (slice_get (program_of walk.now.program.now).methods x.now.method)) (explained_data x.now) lines) }
+        × IsArrangedBlock (program_of walk.now.program.now) (rel_of walk.now.sets.now) (A.Assigned.assigned walk.now.assigned.now)
+        (page_of told.now.file.now told.now.index.now (table_data told.now.source.now.table) (map (λ m. member_of m.now) told.now.methods.now.items) x.now.told.method)
+        (row_at over.now) (aliases_at (program_of walk.now.program.now) (slice_get (program_of walk.now.program.now).methods x.now.told.method)) (arranged_data x.now) lines) }
 {
-    let member = told.methods[x.method.0 as usize];
+    let method = x.told.method;
+    let member = told.methods[method.0 as usize];
     let offsets = method_places(walk.alloc, member)?;
     let slots = slot_names(walk.alloc, member)?;
-    let known = aliases_of(walk.alloc, walk.program, x.method)?;
+    let known = aliases_of(walk.alloc, walk.program, method)?;
     let page = Page {
         file: told.file,
         index: told.index,
@@ -60,7 +61,7 @@ fn add_block<A: Assigned>(
         slots: &slots,
         offsets: offsets.as_slice(),
     };
-    write_block(text, &page, walk, over, known.as_slice(), x)
+    write_arranged(text, &page, walk, over, known.as_slice(), x)
 }
 
 /// The lines of these methods, one after the other.
@@ -68,12 +69,12 @@ fn lines_of<A: Assigned>(
     told: &Told<'_, '_, '_>,
     walk: &Walk<'_, A>,
     over: &OverridingMethods,
-    all: &[Explained<'_>],
+    all: &[Arranged<'_>],
 ) -> Result<String, NoMemory>
-    requires { AreAmongMethods (length told.now.methods.now.items) (map explained_data all.now) }
+    requires { AreAmongMethods (length told.now.methods.now.items) (told_of (map arranged_data all.now)) }
     ensures { IfOk result (λ text. AreTexts (program_of walk.now.program.now) (rel_of walk.now.sets.now) (A.Assigned.assigned walk.now.assigned.now)
         (page_of told.now.file.now told.now.index.now (table_data told.now.source.now.table) (map (λ m. member_of m.now) told.now.methods.now.items))
-        (row_at over.now) (map explained_data all.now) (string_bytes text)) }
+        (row_at over.now) (map arranged_data all.now) (string_bytes text)) }
 {
     let mut text = String::new(walk.alloc);
     for x in all {
@@ -94,5 +95,6 @@ pub(crate) fn explained<A: Assigned>(
 {
     let over = overriders(walk.alloc, walk.program)?;
     let all = explanations(walk, &over)?;
-    lines_of(told, walk, &over, all.as_slice())
+    let arranged = arrange(walk, all)?;
+    lines_of(told, walk, &over, arranged.as_slice())
 }

@@ -1,6 +1,7 @@
 -- The program whose explanations are computed (Shelf), parts and steps of every kind (Bodies), what of explanations is
--- compared (Outlines), and what lines are written with: names, slots and places (Page).
+-- compared (Outlines), what lines are written with: names, slots and places (Page), and methods that are errors (Errors).
 pub mod Shelf
 pub mod Outlines
 pub mod Bodies
 pub mod Page
+pub mod Errors

@@ -2,7 +2,7 @@
 use Rattle.std.specs.Prelude.{ℕ, pos, true, false, List, [], ◌∷◌, Some, None, codes}
 use Rattle.classes.specs.Table.{TableData}
 use Rattle.core_program.specs.declared.types.CoreType.TheVariants.{Class, Int}
-use Rattle.core_program.specs.Core.{Program, Stmt, BlockS, SetFieldS, SyncS, ThisE, IntE, no_stmts, and_stmt}
+use Rattle.core_program.specs.Core.{Program, Stmt, BlockS, SetFieldS, SyncS, PrintS, ThisE, IntE, no_stmts, and_stmt}
 use Rattle.core_program.specs.Examples.{this_path, plain_method}
 use Rattle.paths.specs.Paths.{PathData}
 use Rattle.effects.specs.Parts.{StmtP}
@@ -46,3 +46,7 @@ no_locks m = []
 -- the first and the second `synchronized`
 abbrev pub one_step : ℕ → Visit
 one_step n = record { node = n; part = StmtP locked_put; held = nothing_held; loop = None }
+
+-- `System.out.println(1);`, at the node with this number
+abbrev pub print_step : ℕ → Visit
+print_step n = record { node = n; part = StmtP (PrintS (IntE (pos 1))); held = nothing_held; loop = None }

@@ -1,6 +1,7 @@
 //! Examples of explanations and of their lines, which the check computes.
 #![tactic(auto)]
 
+pub mod arrangements;
 pub mod basics;
 pub mod causes;
 pub mod deeds;

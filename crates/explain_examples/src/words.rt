@@ -11,7 +11,7 @@ ghost use Rattle.explain.specs.Whys.{Wrong, Looped, Compound, Two, Overridden, N
 ghost use Rattle.explain_text.specs.CauseTexts.{cause_text};
 ghost use Rattle.explain_text.specs.Codes.{cause_code, ending, help_code, step_code, step_lead, why_code};
 ghost use Rattle.explain_text.specs.declared.codes.StepKind.TheVariants as kind;
-ghost use Rattle.explain_text.specs.DeedTexts.{deed_text, help_text};
+ghost use Rattle.explain_text.specs.DeedTexts.{deed_text, help_text, may_stay};
 ghost use Rattle.explain_text.specs.Words.{access_text, field_title, held_list_text, lack_text, path_in, slot_in};
 ghost use Rattle.core_examples.specs.Fields.{path};
 ghost use Rattle.explain_examples.specs.Page.{page, one_step, page_table};
@@ -57,6 +57,8 @@ pub fn how_help_reads()
         ∷ codes "the lock that would help this step has no name here, since x isn't final" ∷ [] }
     ensures others { map (help_text page) (helps.ReceiverUnnamed (lack.Variable 1) ∷ helps.NoneNamed ∷ helps.Seen ∷ []) ≡
         codes "no one lock that has a name here helps this step, and x isn't final" ∷ codes "no one lock that has a name here helps this step" ∷ codes "no lock helps this step" ∷ [] }
+    ensures stays { map (λ help. may_stay help (helps.Hold (path 1 []) None)) (helps.Unguarded ∷ helps.Seen ∷ helps.Hold (path 0 []) None ∷ []) ≡ true ∷ true ∷ false ∷ [] }
+    ensures moves { map (may_stay helps.Seen) (helps.Unguarded ∷ helps.NoneNamed ∷ helps.Seen ∷ []) ≡ false ∷ false ∷ false ∷ [] }
 {}
 
 /// The codes of the lines.

@@ -1,5 +1,5 @@
 -- The lines of one method.
-use Rattle.std.specs.Prelude.{◌≡◌, ℕ, Bool, true, false, List, [], ◌++◌, Option, Some, None, codes, slice_get}
+use Rattle.std.specs.Prelude.{◌≡◌, ◌==◌, ℕ, Bool, true, false, List, [], ◌++◌, Option, Some, None, codes, decimal, slice_get, if◌then◌else◌}
 use Rattle.algebra.specs.declared.basic.Basic.{Basic}
 use Rattle.algebra.specs.Basics.{name_of}
 use Rattle.core_program.specs.Core.{Program, Method}
@@ -19,7 +19,7 @@ use Rattle.explain_text.specs.declared.codes.StepKind.{StepKind}
 use Rattle.explain_text.specs.declared.codes.StepKind.TheVariants as kind
 use Rattle.explain_text.specs.Codes.{cause_code, ending, help_code, step_code, step_lead, why_code}
 use Rattle.explain_text.specs.CauseTexts.{cause_text}
-use Rattle.explain_text.specs.DeedTexts.{deed_text, help_text}
+use Rattle.explain_text.specs.DeedTexts.{deed_text, help_text, may_stay}
 use Rattle.explain_text.specs.Words.{path_in}
 
 -- the offset of a method's name; 0 where there is no such method
@@ -63,6 +63,19 @@ around_line P page m limit p = note_line page (method_name_offset (slice_get P.m
 abbrev pub cause_line : PageData → ℕ → List PathData → Cause → List ℕ
 cause_line page node held cause = note_line page (node_offset page node) (cause_text page held cause) (cause_code cause)
 
+-- so many more methods are refused for a call of the method that the line before names
+abbrev pub more_text : ℕ → List ℕ
+more_text n = if n == 1 then codes "1 more method is refused for a call of it" else decimal n ++ codes " more methods are refused for a call of it"
+
+-- its line, at the error that is told; there is none for another reason
+abbrev pub more_line : PageData → WhyData → ℕ → List ℕ
+more_line page (Wrong v) n = note_line page (node_offset page v.node) (more_text n) (codes "more-errors")
+more_line page why n = []
+
+-- the line where there are more methods, and nothing where there are none
+abbrev pub more_lines : PageData → WhyData → ℕ → List ℕ
+more_lines page why n = if n == 0 then [] else more_line page why n
+
 module _ (P : Program) (rel : ℕ → List PathData) (A : Assignment) (page : PageData) where
   -- what a step does, where these methods override each
   abbrev pub step_line : (overs : ℕ → List ℕ) → StepKind → Visit → List ℕ
@@ -75,6 +88,17 @@ module _ (P : Program) (rel : ℕ → List PathData) (A : Assignment) (page : Pa
   -- which lock would help it
   abbrev pub help_line : List Alias → Visit → List ℕ
   help_line aliases v = help_note v.node (help_of P rel A aliases v.part v.held)
+
+  -- a help, as the line of a step beside another with that help: nothing where the step may stay
+  abbrev pub note_beside : ℕ → (help other : Help) → List ℕ
+  note_beside node help other = if may_stay help other then [] else help_note node help
+
+  -- which locks would help two steps, of which one may stay
+  abbrev pub help_lines : List Alias → (v w : Visit) → List ℕ
+  help_lines aliases v w =
+      let help = help_of P rel A aliases v.part v.held in
+      let other = help_of P rel A aliases w.part w.held in
+      note_beside v.node help other ++ note_beside w.node other help
 
   -- the line of this lock, if there is one, around the method that is told; else these lines
   abbrev pub around_or : ℕ → (limit : Basic) → Option PathData → List ℕ → List ℕ
@@ -98,7 +122,7 @@ module _ (P : Program) (rel : ℕ → List PathData) (A : Assignment) (page : Pa
   steps_lines overs aliases m limit (Two v w) =
       step_line overs kind.First v ++ step_line overs kind.Second w
       ++ note_line page (node_offset page w.node) (codes "between the two another thread may come in") (codes "gap-between")
-      ++ helps m limit (help_line aliases v ++ help_line aliases w)
+      ++ helps m limit (help_lines aliases v w)
   steps_lines overs aliases m limit (Overridden k b) = over_line P page k b
   steps_lines overs aliases m limit Nothing = []
 

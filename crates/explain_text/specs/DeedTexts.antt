@@ -1,5 +1,5 @@
 -- What a step does and which lock would help it, in words.
-use Rattle.std.specs.Prelude.{ℕ, List, [], ◌++◌, Option, Some, None, codes}
+use Rattle.std.specs.Prelude.{ℕ, Bool, true, false, not, ◌&&◌, List, [], ◌++◌, Option, Some, None, codes}
 use Rattle.algebra.specs.declared.basic.Basic.{Basic}
 use Rattle.algebra.specs.Basics.{name_of}
 use Rattle.explain.specs.declared.deeds.Deed.{Deed}
@@ -51,3 +51,12 @@ help_text page (helps.Unnamed lack) = codes "the lock that would help this step 
 help_text page (helps.ReceiverUnnamed lack) = codes "no one lock that has a name here helps this step, and " ++ lack_text page lack
 help_text page helps.NoneNamed = codes "no one lock that has a name here helps this step"
 help_text page helps.Seen = codes "no lock helps this step"
+
+-- whether a help is a lock
+abbrev pub is_lock : Help → Bool
+is_lock (helps.Hold p second) = true
+is_lock help = false
+
+-- whether a step with this help may stay as it is beside one with that: no lock helps it, and one helps the other
+abbrev pub may_stay : (help other : Help) → Bool
+may_stay help other = not (is_lock help) && is_lock other

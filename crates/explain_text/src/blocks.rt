@@ -186,7 +186,7 @@ fn write_why<A: Assigned>(
 }
 
 /// Writes the lines of a method: what it is, and why.
-pub fn write_block<A: Assigned>(
+pub(crate) fn write_block<A: Assigned>(
     out: &mut String,
     page: &Page<'_, '_>,
     walk: &Walk<'_, A>,

@@ -2,7 +2,7 @@
 
 ghost use Rattle.std.specs.Prelude.{◌≡◌, ◌++◌, codes, string_bytes, OnOk};
 ghost use Rattle.algebra.specs.Basics.{name_of};
-ghost use Rattle.explain_text.specs.DeedTexts.{deed_text, guard_text, help_text, second_text, takes_text};
+ghost use Rattle.explain_text.specs.DeedTexts.{deed_text, guard_text, help_text, is_lock, may_stay, second_text, takes_text};
 ghost use Rattle.explain_text.specs.Views.{page_data};
 
 use crate::page::Page;
@@ -137,4 +137,21 @@ pub(crate) fn write_help(out: &mut String, page: &Page<'_, '_>, help: &Help) -> 
         Help::NoneNamed => out.push_str("no one lock that has a name here helps this step"),
         Help::Seen => out.push_str("no lock helps this step"),
     }
+}
+
+/// Whether a help is a lock.
+fn is_lock(help: &Help) -> bool
+    ensures { result ≡ is_lock help.now }
+{
+    match help {
+        Help::Hold(_, _) => true,
+        _ => false,
+    }
+}
+
+/// Whether a step with this help may stay as it is beside one with that.
+pub(crate) fn may_stay(help: &Help, other: &Help) -> bool
+    ensures { result ≡ may_stay help.now other.now }
+{
+    !is_lock(help) && is_lock(other)
 }

@@ -11,12 +11,12 @@ use paths::MethodId;
 use report::write_title;
 use std::alloc::AllocError as NoMemory;
 
-/// Writes the number of a node.
-fn write_node(out: &mut String, node: usize) -> Result<(), NoMemory>
-    ensures { OnOk result (string_bytes out.new ≡ string_bytes out.old ++ decimal node) }
+/// Writes a number, as that of a node.
+pub(crate) fn write_decimal(out: &mut String, number: usize) -> Result<(), NoMemory>
+    ensures { OnOk result (string_bytes out.new ≡ string_bytes out.old ++ decimal number) }
 {
     let mut digits = Buffer::new();
-    out.push_str(digits.format(node))
+    out.push_str(digits.format(number))
 }
 
 /// Writes the line of a part.
@@ -34,7 +34,7 @@ fn write_basic(
     out.push_str(": ")?;
     write_title(out, page.table, method)?;
     out.push_str(" ")?;
-    write_node(out, node)?;
+    write_decimal(out, node)?;
     out.push_str("\n")
 }
 

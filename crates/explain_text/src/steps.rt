@@ -1,21 +1,21 @@
 //! The lines of steps, and of what would help.
 
-ghost use Rattle.std.specs.Prelude.{◌≡◌, ◌++◌, string_bytes, OnOk};
+ghost use Rattle.std.specs.Prelude.{◌≡◌, ◌++◌, [], string_bytes, OnOk, if◌then◌else◌};
 ghost use Rattle.core_program.specs.Views.{program_of};
 ghost use Rattle.rules.specs.Near.{rel_of};
 ghost use Rattle.rules.specs.Search.{row_at};
 ghost use Rattle.explain.specs.Around.{around};
 ghost use Rattle.explain.specs.Whys.{Looped, Compound, Two};
 ghost use Rattle.explain.specs.Views.{visit_of};
-ghost use Rattle.explain_text.specs.Blocks.{around_line, around_text, help_line, helps, step_line, steps_lines};
+ghost use Rattle.explain_text.specs.Blocks.{around_line, around_text, help_line, help_lines, helps, step_line, steps_lines};
 ghost use Rattle.explain_text.specs.Codes.{ending, help_code, step_code, step_lead};
-ghost use Rattle.explain_text.specs.DeedTexts.{deed_text, help_text};
+ghost use Rattle.explain_text.specs.DeedTexts.{deed_text, help_text, may_stay};
 ghost use Rattle.explain_text.specs.Pages.{note_front};
 ghost use Rattle.explain_text.specs.Views.{page_data};
 
 use crate::blocks::name_offset;
 use crate::codes::{StepKind, help_ending, step_ending, step_lead};
-use crate::deeds::{write_deed, write_help};
+use crate::deeds::{may_stay, write_deed, write_help};
 use crate::page::{Page, begin_line, note_front, write_note};
 use crate::words::write_path;
 use algebra::Basic;
@@ -182,7 +182,25 @@ fn write_help_of<A: Assigned>(
     }
 }
 
-/// Writes the lines of what would help each of two steps.
+/// Writes the line of what would help a step, behind what the line begins with; nothing where the step may stay beside one with this
+/// other help.
+fn write_beside(
+    out: &mut String,
+    page: &Page<'_, '_>,
+    front: &str,
+    help: &Help,
+    other: &Help,
+) -> Result<(), NoMemory>
+    ensures { OnOk result (string_bytes out.new ≡ string_bytes out.old
+        ++ (if may_stay help.now other.now then [] else (front.now ++ help_text (page_data page.now) help.now ++ ending (help_code help.now)))) }
+{
+    if may_stay(help, other) {
+        return Ok(());
+    }
+    write_help_line(out, page, front, help)
+}
+
+/// Writes the lines of what would help two steps, of which one may stay.
 fn write_both<A: Assigned>(
     out: &mut String,
     page: &Page<'_, '_>,
@@ -194,14 +212,17 @@ fn write_both<A: Assigned>(
     requires first { fronts.0.now ≡ note_front (page_data page.now) first.now.node }
     requires second { fronts.1.now ≡ note_front (page_data page.now) second.now.node }
     ensures { OnOk result (string_bytes out.new ≡ string_bytes out.old
-        ++ (help_line (program_of asked.now.walk.now.program.now) (rel_of asked.now.walk.now.sets.now) (A.Assigned.assigned asked.now.walk.now.assigned.now) (page_data page.now) asked.now.aliases.now (visit_of first.now)
-        ++ help_line (program_of asked.now.walk.now.program.now) (rel_of asked.now.walk.now.sets.now) (A.Assigned.assigned asked.now.walk.now.assigned.now) (page_data page.now) asked.now.aliases.now (visit_of second.now))) }
+        ++ help_lines (program_of asked.now.walk.now.program.now) (rel_of asked.now.walk.now.sets.now) (A.Assigned.assigned asked.now.walk.now.assigned.now) (page_data page.now) asked.now.aliases.now (visit_of first.now) (visit_of second.now)) }
 {
-    write_helping(out, page, asked, fronts.0, first)?;
-    write_helping(out, page, asked, fronts.1, second)
+    let here = first.held.as_slice();
+    let there = second.held.as_slice();
+    let help = help_of(asked.walk, asked.aliases, first.part, here)?;
+    let other = help_of(asked.walk, asked.aliases, second.part, there)?;
+    write_beside(out, page, fronts.0, &help, &other)?;
+    write_beside(out, page, fronts.1, &other, &help)
 }
 
-/// Writes what would help a method with these two steps: a lock around all of it; where there is none, the lines of both.
+/// Writes what would help a method with these two steps: a lock around all of it; where there is none, the lines of the two.
 fn write_help_of_two<A: Assigned>(
     out: &mut String,
     page: &Page<'_, '_>,
@@ -214,8 +235,7 @@ fn write_help_of_two<A: Assigned>(
     requires second { fronts.1.now ≡ note_front (page_data page.now) second.now.node }
     requires around { asked.now.around ≡ around (program_of asked.now.walk.now.program.now) (rel_of asked.now.walk.now.sets.now) (A.Assigned.assigned asked.now.walk.now.assigned.now) asked.now.method asked.now.limit }
     ensures { OnOk result (string_bytes out.new ≡ string_bytes out.old ++ helps (program_of asked.now.walk.now.program.now) (rel_of asked.now.walk.now.sets.now) (A.Assigned.assigned asked.now.walk.now.assigned.now) (page_data page.now) asked.now.method asked.now.limit
-        (help_line (program_of asked.now.walk.now.program.now) (rel_of asked.now.walk.now.sets.now) (A.Assigned.assigned asked.now.walk.now.assigned.now) (page_data page.now) asked.now.aliases.now (visit_of first.now)
-        ++ help_line (program_of asked.now.walk.now.program.now) (rel_of asked.now.walk.now.sets.now) (A.Assigned.assigned asked.now.walk.now.assigned.now) (page_data page.now) asked.now.aliases.now (visit_of second.now))) }
+        (help_lines (program_of asked.now.walk.now.program.now) (rel_of asked.now.walk.now.sets.now) (A.Assigned.assigned asked.now.walk.now.assigned.now) (page_data page.now) asked.now.aliases.now (visit_of first.now) (visit_of second.now))) }
 {
     match &asked.around {
         Some(lock) => write_around(out, page, asked, lock),

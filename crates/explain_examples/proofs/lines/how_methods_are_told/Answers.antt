@@ -21,3 +21,11 @@ returns-clause-overrides c = refl
 pub returns-clause-around : goal.returns-clause-around
 unfolding digits
 returns-clause-around c = refl
+
+pub returns-clause-counts : goal.returns-clause-counts
+unfolding digits
+returns-clause-counts c = refl
+
+pub returns-clause-more : goal.returns-clause-more
+unfolding digits
+returns-clause-more c = refl

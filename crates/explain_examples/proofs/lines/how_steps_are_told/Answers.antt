@@ -41,3 +41,27 @@ returns-clause-compound_around c = refl
 pub returns-clause-compound : goal.returns-clause-compound
 unfolding digits
 returns-clause-compound c = refl
+
+pub returns-clause-beside : goal.returns-clause-beside
+unfolding digits
+returns-clause-beside c = refl
+
+pub returns-clause-lock_beside : goal.returns-clause-lock_beside
+unfolding digits
+returns-clause-lock_beside c = refl
+
+pub returns-clause-both : goal.returns-clause-both
+unfolding digits
+returns-clause-both c = refl
+
+pub returns-clause-one_stays : goal.returns-clause-one_stays
+unfolding digits
+returns-clause-one_stays c = refl
+
+pub returns-clause-other_stays : goal.returns-clause-other_stays
+unfolding digits
+returns-clause-other_stays c = refl
+
+pub returns-clause-none_stays : goal.returns-clause-none_stays
+unfolding digits
+returns-clause-none_stays c = refl
