@@ -11,7 +11,7 @@ const LOCKED: &str =
     "class Main { int v guarded_by this; atomic void main() { synchronized (this) { this.v = 7; } } }";
 
 /// What is written for words that ask for nothing.
-const USAGE: &str = "usage: atomic_why FILE | --all FILE\n";
+const USAGE: &str = "usage: atomic_why FILE.. | --all FILE..\n";
 
 /// Sources, each with its status and text: an error, one behind which three methods are errors that call it, two steps, two of which one may
 /// stay, a loop, a compound step with the method that it calls, an overriding method, a lock that would help around all of it, a callee
@@ -67,7 +67,7 @@ static EXPLAINED: [(&str, u8, &str); 11] = [
 ];
 
 /// Words, each with its status and text, where the file `a` is the accepted source.
-static ASKED: [(&[&str], u8, &str); 5] = [
+static ASKED: [(&[&str], u8, &str); 7] = [
     (
         &["--all", "a"],
         0,
@@ -75,18 +75,58 @@ static ASKED: [(&[&str], u8, &str); 5] = [
     ),
     (&[], 9, USAGE),
     (&["--all"], 9, USAGE),
-    (&["a", "a"], 9, USAGE),
+    (&["a", "--all"], 9, USAGE),
+    (&["a", "a"], 0, ""),
+    (&["--all", "--all"], 6, "cannot read --all\n"),
     (&["b"], 6, "cannot read b\n"),
 ];
 
-/// The status and the text of the words, where the file `a` has these bytes.
-fn answer(alloc: Global, words: &[&str], bytes: Vec<u8>) -> Result<(u8, Vec<u8>), Fail> {
+/// The names of files, each with the source in it.
+static FILES: [(&str, &str); 3] = [
+    ("a", LOCKED),
+    (
+        "b",
+        "class Main { int v guarded_by this; void main() { this.v = 7; } }",
+    ),
+    ("c", "class Main { }"),
+];
+
+/// Words that name some of these files, and one that isn't there, each with its status and text: the worst status, and all lines in the order
+/// of the words.
+static SEVERAL: [(&[&str], u8, &str); 5] = [
+    (&["a", "a", "a"], 0, ""),
+    (
+        &["b", "a"],
+        2,
+        "b:1:42: error: Main.main is declared cmpd, found error [lock-error]\nb:1:51: note: this.v is guarded by this, which isn't held here; held: nothing [guard-not-held]\n",
+    ),
+    (
+        &["c", "b"],
+        1,
+        "c:1:1: error: no main\nb:1:42: error: Main.main is declared cmpd, found error [lock-error]\nb:1:51: note: this.v is guarded by this, which isn't held here; held: nothing [guard-not-held]\n",
+    ),
+    (
+        &["a", "d", "c"],
+        6,
+        "cannot read d\nc:1:1: error: no main\n",
+    ),
+    (
+        &["--all", "a", "c"],
+        1,
+        "a:1:49: atomic: Main.main 0\na:1:58: atomic: Main.main 1\na:1:58: mover: Main.main 2\na:1:80: mover: Main.main 3\nc:1:1: error: no main\n",
+    ),
+];
+
+/// The status and the text of the words, where there are these files.
+fn answer(
+    alloc: Global,
+    words: &[&str],
+    files: Vec<(String, Vec<u8>)>,
+) -> Result<(u8, Vec<u8>), Fail> {
     let mut list = Vec::new(alloc);
     for word in words {
         list.push(String::from_str(alloc, word)?)?;
     }
-    let mut files = Vec::new(alloc);
-    files.push((String::from_str(alloc, "a")?, bytes))?;
     let mut folder = MemFolder::new(alloc, files, 4096, Vec::new(alloc))?;
     let mut sink = MemSink::new(alloc, 1048576, Vec::new(alloc), 1048576)?;
     let status = run(alloc, list.as_slice(), &mut folder, &mut sink);
@@ -103,7 +143,28 @@ fn expect(
     status: u8,
     text: &str,
 ) -> Result<(), Fail> {
-    let given = answer(alloc, words, bytes)?;
+    let mut files = Vec::new(alloc);
+    files.push((String::from_str(alloc, "a")?, bytes))?;
+    let given = answer(alloc, words, files)?;
+    assert_eq!(rt; given.0, status);
+    assert_eq!(rt; given.1.as_slice(), text.as_bytes());
+    Ok(())
+}
+
+/// The words have this status and this text, where there are the files of the table.
+fn expect_of_files(
+    rt: &impl Abort,
+    alloc: Global,
+    words: &[&str],
+    status: u8,
+    text: &str,
+) -> Result<(), Fail> {
+    let mut files = Vec::new(alloc);
+    for (name, source) in &FILES {
+        let bytes = source.as_bytes().to_vec(alloc)?;
+        files.push((String::from_str(alloc, name)?, bytes))?;
+    }
+    let given = answer(alloc, words, files)?;
     assert_eq!(rt; given.0, status);
     assert_eq!(rt; given.1.as_slice(), text.as_bytes());
     Ok(())
@@ -123,6 +184,14 @@ fn words_are_answered(rt: HostRuntime) -> Result<(), Fail> {
     for (words, status, text) in &ASKED {
         let bytes = LOCKED.as_bytes().to_vec(rt.alloc())?;
         expect(&rt, rt.alloc(), words, bytes, *status, text)?;
+    }
+    Ok(())
+}
+
+#[test]
+fn several_files_are_answered(rt: HostRuntime) -> Result<(), Fail> {
+    for (words, status, text) in &SEVERAL {
+        expect_of_files(&rt, rt.alloc(), words, *status, text)?;
     }
     Ok(())
 }

@@ -9,22 +9,12 @@ use Rattle.edge.specs.Said.{SaysText, IsTroubleStatus}
 use Rattle.sources.specs.Refusals.{code_of}
 use Rattle.sources.specs.Files.{HasSameFaults, IsUnread, IsOver, WritesText, WritesFrontOf}
 use Rattle.explain_commands.specs.declared.words.Order.{Order}
-use Rattle.explain_commands.specs.declared.words.Order.TheVariants.{Why, All}
-use Rattle.explain_commands.specs.Outcomes.{IsExplainOutcome, unread, over, read}
-use Rattle.explain_commands.specs.Words.{AsksFor, all_word}
-use Rattle.explain_commands.specs.Written.{IsAskedFile, BelongsToFile, too_large, ended, IsExactStatusOfFile, WritesAnswerToFile, IsSomeText, some_unread, some_answer, IsSomeTextToBytes, unread_line, answer_to}
+use Rattle.explain_commands.specs.Outcomes.{AreOutcomes, IsExplainOutcome, unread, over, read, no_file, one_file}
+use Rattle.explain_commands.specs.Words.{AsksFor, AsksForAll}
+use Rattle.explain_commands.specs.Written.{AreAnswers, AreCalm, AreTold, IsTextOfFiles, IsAskedFile, BelongsToFile, too_large, ended, IsExactStatusOfFile, WritesAnswerToFile, IsSomeText, some_unread, some_answer, IsSomeTextToBytes, unread_line, answer_to}
 use Rattle.explain_commands.proofs.Endings.{caused, low_code, exact_answer, exact_yield}
-
--- words ask for one thing at most
-pub record Same (order other : Order) (name its : List ℕ) : Type 0 where
-  pub order_is : order ≡ other
-  pub name_is : name ≡ its
-
-pub one_row : (words : List (List ℕ)) (order other : Order) (name its : List ℕ) → AsksFor words order name → AsksFor words other its → Same order other name its
-one_row words Why Why name its a b = record { order_is = refl; name_is = let e : name ∷ [] ≡ its ∷ [] = sym a.0 ∙ b.0 in cc }
-one_row words Why All name its a b = absurd (let e : name ∷ [] ≡ all_word ∷ its ∷ [] = sym a.0 ∙ b in cc)
-one_row words All Why name its a b = absurd (let e : its ∷ [] ≡ all_word ∷ name ∷ [] = sym b.0 ∙ a in cc)
-one_row words All All name its a b = record { order_is = refl; name_is = let e : all_word ∷ name ∷ [] ≡ all_word ∷ its ∷ [] = sym a ∙ b in cc }
+use Rattle.explain_commands.proofs.Several.{all_calm_or_six, all_told, alone, of_one, one_row}
+use Rattle.explain_commands.proofs.Worst.{one_of_two}
 
 -- what is told of a file that is told
 told_is : (o : Option (List ℕ)) (file bytes : List ℕ) → o ≡ Some file → IfSome o (λ its. bytes ≡ its) → bytes ≡ file
@@ -43,14 +33,14 @@ some_over : (told : Option (List ℕ)) → IfSome told (λ file. longest_source 
 some_over None is = record { file = replicate (suc longest_source) 0; its = tt; is_over = let e : length {A = ℕ} (replicate (suc longest_source) 0) ≡ suc longest_source = length-replicate {A = ℕ} (suc longest_source) 0 in omega (arith, e) }
 some_over (Some file) is = record { file = file; its = refl; is_over = is }
 
--- the words ask for something: its status and text, and what was said
+-- the words ask for something: the status and the text of all files, and what was said
 pub record IsDone (words : List (List ℕ)) (result : ℕ) (told : List ℕ → Option (List ℕ)) (before now : List ℕ → ℕ) (old new : Option (List ℕ)) (sink_before sink_now : ℕ) : Type 0 where
   pub order : Order
-  pub name : List ℕ
-  pub is_row : AsksFor words order name
+  pub names : List (List ℕ)
+  pub are_names : AsksForAll words order names
   pub status : ℕ
   pub text : List ℕ
-  pub outcome : IsExplainOutcome order name told before now status text
+  pub outcomes : AreOutcomes order told names before now status text
   pub said : SaysText result status text old new sink_before sink_now
 
 module _ (told : List ℕ → Option (List ℕ)) (before now : List ℕ → ℕ) (order : Order) (name : List ℕ) where
@@ -65,15 +55,14 @@ module _ (told : List ℕ → Option (List ℕ)) (before now : List ℕ → ℕ)
   ten _ _ (over is) e = (is, refl)
   ten _ _ (read file ending text is answer) e = absurd (let low = low_code file ending (caused order name file ending text answer) in omega (arith, low, e))
 
-  not_seven : (status : ℕ) (text : List ℕ) → IsExplainOutcome order name told before now status text → status ≡ 7 → ⊥
-  not_seven _ _ (unread is) e = omega (arith, e)
-  not_seven _ _ (over is) e = omega (arith, e)
-  not_seven _ _ (read file ending text is answer) e = let low = low_code file ending (caused order name file ending text answer) in omega (arith, low, e)
+  -- a status that is none of a file
+  none_of : (n : ℕ) → 2 < n → (6 ≡ n → ⊥) → (10 ≡ n → ⊥) → (status : ℕ) (text : List ℕ) → IsExplainOutcome order name told before now status text → status ≡ n → ⊥
+  none_of n big six ten _ _ (unread is) e = six e
+  none_of n big six ten _ _ (over is) e = ten e
+  none_of n big six ten _ _ (read file ending text is answer) e = let low = low_code file ending (caused order name file ending text answer) in omega (arith, low, big, e)
 
-  calm_or_six : (status : ℕ) (text : List ℕ) → IsExplainOutcome order name told before now status text → (status ≡ 6) ⊎ HasSameFaults before now
-  calm_or_six _ _ (unread is) = inl refl
-  calm_or_six _ _ (over is) = inr is.quiet
-  calm_or_six _ _ (read file ending text is answer) = inr is.quiet
+  not_seven : (status : ℕ) (text : List ℕ) → IsExplainOutcome order name told before now status text → status ≡ 7 → ⊥
+  not_seven = none_of 7 (omega arith) (λ e. omega (arith, e)) (λ e. omega (arith, e))
 
   -- the bytes to which it is the answer, whatever is told
   record IsToBytes (status : ℕ) (text : List ℕ) : Type 0 where
@@ -101,13 +90,66 @@ module _ (told : List ℕ → Option (List ℕ)) (before now : List ℕ → ℕ)
       let same = told_is (told name) file bytes is has.its in
       inr (subst (λ b. BelongsToFile order name b (code_of ending) text) same (ended ending text has.within answer))
 
+-- a status that is none of a file is none of several
+none_all : (order : Order) (told : List ℕ → Option (List ℕ)) (n : ℕ) → 2 < n → (6 ≡ n → ⊥) → (10 ≡ n → ⊥) → (names : List (List ℕ)) (before now : List ℕ → ℕ) (status : ℕ) (text : List ℕ)
+    → AreOutcomes order told names before now status text → status ≡ n → ⊥
+none_all order told n big six ten _ _ _ _ _ no_file e = omega (arith, big, e)
+none_all order told n big six ten _ before now _ _ (one_file {name = name} {names = names} {between = between} {status = status} {worst = worst} {text = text} {rest = rest} outcome rises others) e =
+    one_of_two status worst (λ s. s ≡ n → ⊥) (none_of told before between order name n big six ten status text outcome) (none_all order told n big six ten names between now worst rest others) e
+
 module _ (words : List (List ℕ)) (result : ℕ) (told : List ℕ → Option (List ℕ)) (before now : List ℕ → ℕ) (old new : Option (List ℕ)) (sink_before sink_now : ℕ)
     (d : IsDone words result told before now old new sink_before sink_now) where
   -- what was found, for what the words ask
+  all_its : (order : Order) (names : List (List ℕ)) → AsksForAll words order names → AreOutcomes order told names before now d.status d.text
+  all_its order names are =
+      let same = one_row words d.order order d.names names d.are_names are in
+      subst (λ o. AreOutcomes o told names before now d.status d.text) same.order_is (subst (λ ns. AreOutcomes d.order told ns before now d.status d.text) same.names_are d.outcomes)
+
   its : (order : Order) (name : List ℕ) → AsksFor words order name → IsExplainOutcome order name told before now d.status d.text
-  its order name is =
-      let same = one_row words d.order order d.name name d.is_row is in
-      subst (λ o. IsExplainOutcome o name told before now d.status d.text) same.order_is (subst (λ n. IsExplainOutcome d.order n told before now d.status d.text) same.name_is d.outcome)
+  its order name is = of_one order told name before now d.status d.text (all_its order (name ∷ []) (alone words order name is))
+
+  -- statuses that never come, and the one of a sink that fails
+  pub never : (n : ℕ) → 2 < n → (6 ≡ n → ⊥) → (10 ≡ n → ⊥) → (7 ≡ n → ⊥) → result ≡ n → ⊥
+  never n big six ten seven e = by d.said
+    where
+      by : SaysText result d.status d.text old new sink_before sink_now → ⊥
+      by (inl s) = none_all d.order told n big six ten d.names before now d.status d.text d.outcomes (sym s.0 ∙ e)
+      by (inr s) = seven (sym s.0 ∙ e)
+
+  pub cannot_write : result ≡ 7 → Rose sink_before sink_now
+  cannot_write e = by d.said
+    where
+      by : SaysText result d.status d.text old new sink_before sink_now → Rose sink_before sink_now
+      by (inl s) = absurd (none_all d.order told 7 (omega arith) (λ k. omega (arith, k)) (λ k. omega (arith, k)) d.names before now d.status d.text d.outcomes (sym s.0 ∙ e))
+      by (inr s) = s.2
+
+  -- of one file or several, what was found of all
+  pub files : (order : Order) (names : List (List ℕ)) → AsksForAll words order names → (result ≡ 7) ⊎ ((result ≡ 8) ⊎ WritesText (AreOutcomes order told names before now result) old new)
+  files order names are = by d.said
+    where
+      by : SaysText result d.status d.text old new sink_before sink_now → (result ≡ 7) ⊎ ((result ≡ 8) ⊎ WritesText (AreOutcomes order told names before now result) old new)
+      by (inl s) = inr (inr (record { text = d.text; belongs = subst (λ n. AreOutcomes order told names before now n d.text) (sym s.0) (all_its order names are); written = s.1 }))
+      by (inr s) = inl s.0
+
+  pub files_cut : (order : Order) (names : List (List ℕ)) → AsksForAll words order names → result ≡ 7 → WritesFrontOf (IsTextOfFiles order names told before now) old new
+  files_cut order names are seven = by d.said
+    where
+      found : AreOutcomes order told names before now d.status d.text
+      found = all_its order names are
+
+      by : SaysText result d.status d.text old new sink_before sink_now → WritesFrontOf (IsTextOfFiles order names told before now) old new
+      by (inl s) = absurd (none_all order told 7 (omega arith) (λ e. omega (arith, e)) (λ e. omega (arith, e)) names before now d.status d.text found (sym s.0 ∙ seven))
+      by (inr s) = record { text = d.text; belongs = record { status = d.status; outcomes = found }; written = s.1 }
+
+  pub files_complete : (order : Order) (names : List (List ℕ)) → AsksForAll words order names → AreTold told names → AreCalm before now names → (Rose sink_before sink_now → ⊥)
+      → (result ≡ 8) ⊎ WritesText (AreAnswers order told names result) old new
+  files_complete order names are some calm sink_calm = by d.said
+    where
+      by : SaysText result d.status d.text old new sink_before sink_now → (result ≡ 8) ⊎ WritesText (AreAnswers order told names result) old new
+      by (inl s) =
+          let answers = all_told order told names before now d.status d.text some calm (all_its order names are) in
+          inr (record { text = d.text; belongs = subst (λ n. AreAnswers order told names n d.text) (sym s.0) answers; written = s.1 })
+      by (inr s) = absurd (sink_calm s.2)
 
   -- a file that can't be read
   pub unreadable : (order : Order) (name : List ℕ) → AsksFor words order name → result ≡ 6 → IsUnread told before now name × Appends old new (cannot_read_line name)
@@ -127,7 +169,7 @@ module _ (words : List (List ℕ)) (result : ℕ) (told : List ℕ → Option (L
 
   -- a fault of a file is answered by the line of a file that can't be read
   pub quiet : IsTroubleStatus result ⊎ HasSameFaults before now
-  quiet = by d.said (calm_or_six told before now d.order d.name d.status d.text d.outcome)
+  quiet = by d.said (all_calm_or_six d.order told d.names before now d.status d.text d.outcomes)
     where
       by : SaysText result d.status d.text old new sink_before sink_now → (d.status ≡ 6) ⊎ HasSameFaults before now → IsTroubleStatus result ⊎ HasSameFaults before now
       by (inr s) a = inl (inr (inl s.0))

@@ -1,7 +1,8 @@
 -- For a reader of the top call, in this order: what the words ask for (Words), the line of a source that isn't well-formed (Faults), the
 -- methods that break their bounds (Broken), the lines of explanations and the listing of basics (Explained, Listed), what is answered to
--- the bytes of a source and when it ends how (Answers), what is known of the file that was read (Reading), what is written (Written), and
--- the sentence that the program is for (Sentence). Least and Outcomes serve the proofs.
+-- the bytes of a source and when it ends how (Answers), what is known of the file that was read (Reading), which status is worse (Worse),
+-- what was found of each file (Outcomes), what is written (Written), and the sentence that the program is for (Sentence). Least serves the
+-- proofs.
 pub mod Words
 pub mod Faults
 pub mod Broken
@@ -9,7 +10,8 @@ pub mod Explained
 pub mod Listed
 pub mod Answers
 pub mod Reading
+pub mod Worse
+pub mod Outcomes
 pub mod Written
 pub mod Sentence
 pub mod Least
-pub mod Outcomes

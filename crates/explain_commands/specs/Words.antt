@@ -1,4 +1,4 @@
--- What the words ask for, and of which file.
+-- What the words ask for, and of which files.
 use Rattle.std.specs.Prelude.{◌≡◌, ◌≢◌, ℕ, List, [], ◌∷◌, ◌++◌, codes}
 use Rattle.edge.specs.Lines.{line_end}
 use Rattle.explain_commands.specs.declared.words.Order.{Order}
@@ -6,17 +6,28 @@ use Rattle.explain_commands.specs.declared.words.Order.TheVariants.{Why, All}
 
 -- what is written for words that ask for nothing
 abbrev pub explain_usage_line : List ℕ
-explain_usage_line = codes "usage: atomic_why FILE | --all FILE" ++ line_end
+explain_usage_line = codes "usage: atomic_why FILE.. | --all FILE.." ++ line_end
 
 -- the word that asks for the basic of each part
 abbrev pub all_word : List ℕ
 all_word = codes "--all"
 
--- the words ask for this of the file of this name: they are the name alone, which isn't `--all`; or `--all` and the name
+-- none of these is that word
+abbrev pub HasNoFlag : List (List ℕ) → Type 0
+HasNoFlag [] = Unit {0}
+HasNoFlag (name ∷ names) = (name ≢ all_word) × HasNoFlag names
+
+-- the words ask for this of the files of these names, of which there is at least one: they are the names alone, of which none is `--all`;
+-- or `--all` and the names
+abbrev pub AsksForAll : List (List ℕ) → Order → List (List ℕ) → Type 0
+AsksForAll words Why names = (words ≡ names) × (names ≢ []) × HasNoFlag names
+AsksForAll words All names = (words ≡ all_word ∷ names) × (names ≢ [])
+
+-- the words ask for this of the file of this name alone: they are the name, which isn't `--all`; or `--all` and the name
 abbrev pub AsksFor : List (List ℕ) → Order → List ℕ → Type 0
 AsksFor words Why name = (words ≡ name ∷ []) × (name ≢ all_word)
 AsksFor words All name = words ≡ all_word ∷ name ∷ []
 
 -- the words ask for nothing
 abbrev pub AsksNothing : List (List ℕ) → Type 0
-AsksNothing words = (order : Order) (name : List ℕ) → AsksFor words order name → ⊥
+AsksNothing words = (order : Order) (names : List (List ℕ)) → AsksForAll words order names → ⊥

@@ -1,6 +1,7 @@
 -- What is written, and with which status.
-use Rattle.std.specs.Prelude.{◌≡◌, ℕ, ◌<◌, ◌≤◌, List, Option, Some, IfSome, length}
+use Rattle.std.specs.Prelude.{◌≡◌, ℕ, ◌<◌, ◌≤◌, List, [], ◌∷◌, ◌++◌, Option, Some, IfSome, IsSome, length}
 use Rattle.lexer.specs.Limits.{longest_source}
+use Rattle.edge.specs.Faults.{Rose}
 use Rattle.edge.specs.Lines.{cannot_read_line, too_large_line}
 use Rattle.edge.specs.Said.{Exactly}
 use Rattle.sources.specs.declared.refusal.Ending.{Ending}
@@ -9,7 +10,9 @@ use Rattle.sources.specs.Refusals.{code_of}
 use Rattle.sources.specs.Files.{IsUnread, WritesText}
 use Rattle.explain_commands.specs.declared.words.Order.{Order}
 use Rattle.explain_commands.specs.Answers.{ExplainAnswer}
+use Rattle.explain_commands.specs.Outcomes.{AreOutcomes}
 use Rattle.explain_commands.specs.Words.{AsksFor}
+use Rattle.explain_commands.specs.Worse.{worse}
 
 -- the words ask for this of the file of this name, and the folder tells its bytes
 pub record IsAskedFile (words : List (List ℕ)) (told : List ℕ → Option (List ℕ)) (order : Order) (name file : List ℕ) : Type 0 where
@@ -46,3 +49,27 @@ pub data IsSomeTextToBytes (order : Order) (name : List ℕ) (told : List ℕ �
   unread_line : IsUnread told before now name → IsSomeTextToBytes order name told before now (cannot_read_line name)
   answer_to : (file : List ℕ) (status : ℕ) (text : List ℕ) → IfSome (told name) (λ bytes. file ≡ bytes) → BelongsToFile order name file status text
       → IsSomeTextToBytes order name told before now text
+
+-- ---- several files
+
+-- each of the files of these names is told
+abbrev pub AreTold : (told : List ℕ → Option (List ℕ)) → List (List ℕ) → Type 0
+AreTold told [] = Unit {0}
+AreTold told (name ∷ names) = IsSome (told name) × AreTold told names
+
+-- no count of faults of these names rose or stands at its last value
+abbrev pub AreCalm : (before now : List ℕ → ℕ) → List (List ℕ) → Type 0
+AreCalm before now [] = Unit {0}
+AreCalm before now (name ∷ names) = (Rose (before name) (now name) → ⊥) × AreCalm before now names
+
+-- the status and the text that belong to what is asked and the bytes of these files: the status is the worst of those that belong to each by
+-- itself, the text is theirs one behind the other
+pub data AreAnswers (order : Order) (told : List ℕ → Option (List ℕ)) : List (List ℕ) → ℕ → List ℕ → Type 0 where
+  no_answer : AreAnswers order told [] 0 []
+  one_answer : {name : List ℕ} {names : List (List ℕ)} {status worst : ℕ} {text rest : List ℕ} (file : List ℕ) → told name ≡ Some file → BelongsToFile order name file status text
+      → AreAnswers order told names worst rest → AreAnswers order told (name ∷ names) (worse status worst) (text ++ rest)
+
+-- the text of all files, with whatever status
+pub record IsTextOfFiles (order : Order) (names : List (List ℕ)) (told : List ℕ → Option (List ℕ)) (before now : List ℕ → ℕ) (text : List ℕ) : Type 0 where
+  pub status : ℕ
+  pub outcomes : AreOutcomes order told names before now status text

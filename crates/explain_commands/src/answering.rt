@@ -25,7 +25,6 @@ use explain::{Shown, Walk};
 use places::{LineIndex, methods_in};
 use sources::{Ending, Refusal, Source, text_of, tree_of, well_formed};
 use std::alloc::{AllocError as NoMemory, Global};
-use std::mem::forget;
 use syntax::{Member, Program};
 
 /// How it ended, and the text that is written.
@@ -117,9 +116,8 @@ fn answered_tree<'a>(
 {
     let index = LineIndex::new(alloc, text)?;
     let source = well_formed(alloc, text, tree)?;
-    let said = judged(alloc, order, file, &index, tree, &source);
-    forget(source);
-    Ok(said?)
+    let said = judged(alloc, order, file, &index, tree, &source)?;
+    Ok(said)
 }
 
 /// What is said of bytes, or the refusal of those that are no well-formed source.
@@ -130,9 +128,7 @@ fn answered(alloc: Global, order: Order, file: &str, bytes: &[u8]) -> Result<Sai
 {
     let text = text_of(alloc, bytes)?;
     let tree = tree_of(alloc, text)?;
-    let said = answered_tree(alloc, order, file, text, &tree);
-    forget(tree);
-    said
+    answered_tree(alloc, order, file, text, &tree)
 }
 
 /// How it ends, and the text that is written, for the bytes of a file of this name.

@@ -1,4 +1,4 @@
-//! `atomic_why` over the words of its command line, a folder and a sink: why the methods of a source that break their
+//! `atomic_why` over the words of its command line, a folder and a sink: why the methods of sources that break their
 //! bounds do.
 #![tactic(auto)]
 
@@ -10,6 +10,7 @@ mod listing;
 mod program;
 mod told;
 mod words;
+mod worse;
 
 pub use answering::{Said, explain};
 pub use program::run;

@@ -1,9 +1,10 @@
 //! The words of the command line.
 
-ghost use Rattle.std.specs.Prelude.{◌≡◌, ◌≢◌, ◌∷◌, [], ℕ, List, map, MatchOption, string_bytes};
-ghost use Rattle.explain_commands.specs.Words.{AsksFor, AsksNothing, all_word};
+ghost use Rattle.std.specs.Prelude.{◌≡◌, ◌≢◌, ℕ, [], List, true, false, map, MatchOption, string_bytes};
+ghost use Rattle.explain_commands.specs.declared.words.Order.TheVariants as order;
+ghost use Rattle.explain_commands.specs.Words.{AsksForAll, AsksNothing, HasNoFlag, all_word};
 
-/// What is asked of a source.
+/// What is asked of sources.
 #[derive(Clone, Copy, Debug, PartialEq, Eq)]
 pub enum Order {
     /// Why each method that breaks its bound does.
@@ -15,41 +16,64 @@ pub enum Order {
 /// The word that asks for the basic of each part.
 const ALL: &str = "--all";
 
-/// The only one of these words.
-fn only_word(words: &[String]) -> Option<&str>
-    ensures { MatchOption result ((name : List ℕ) → map string_bytes words.now ≢ name ∷ []) (λ name. map string_bytes words.now ≡ name.now ∷ []) }
+/// Whether a word is the one that asks for the basic of each part.
+fn is_flag(word: &str) -> bool
+    ensures yes { result ≡ true → word.now ≡ all_word }
+    ensures no { result ≡ false → word.now ≢ all_word }
 {
-    let (name, rest) = words.split_first()?;
-    if rest.is_empty() {
-        Some(name.as_str())
+    word == ALL
+}
+
+/// Whether that word is among these.
+fn has_flag(words: &[String]) -> bool
+    ensures none { result ≡ false → HasNoFlag (map string_bytes words.now) }
+    ensures some { result ≡ true → HasNoFlag (map string_bytes words.now) → ⊥ }
+{
+    for word in words {
+        if is_flag(word.as_str()) {
+            return true;
+        }
+    }
+    false
+}
+
+/// The words, where they are names alone.
+fn only_names(words: &[String]) -> Option<&[String]>
+    ensures { MatchOption result ((names : List (List ℕ)) → AsksForAll (map string_bytes words.now) order.Why names → ⊥) (λ names. AsksForAll (map string_bytes words.now) order.Why (map string_bytes names.now)) }
+{
+    if words.is_empty() || has_flag(words) {
+        None
+    } else {
+        Some(words)
+    }
+}
+
+/// These names, where there is one at least.
+fn one_at_least(names: &[String]) -> Option<&[String]>
+    ensures { MatchOption result (map string_bytes names.now ≡ []) (λ same. (map string_bytes names.now ≡ map string_bytes same.now) × (map string_bytes same.now ≢ [])) }
+{
+    if names.is_empty() { None } else { Some(names) }
+}
+
+/// The names behind the word that asks for the basic of each part.
+fn names_behind_flag(words: &[String]) -> Option<&[String]>
+    ensures { MatchOption result ((names : List (List ℕ)) → AsksForAll (map string_bytes words.now) order.All names → ⊥) (λ names. AsksForAll (map string_bytes words.now) order.All (map string_bytes names.now)) }
+{
+    let (flag, names) = words.split_first()?;
+    if is_flag(flag.as_str()) {
+        one_at_least(names)
     } else {
         None
     }
 }
 
-/// The name behind the word that asks for the basic of each part.
-fn word_behind_flag(words: &[String]) -> Option<&str>
-    ensures { MatchOption result ((name : List ℕ) → map string_bytes words.now ≢ all_word ∷ name ∷ []) (λ name. map string_bytes words.now ≡ all_word ∷ name.now ∷ []) }
+/// What the words ask for, and of which files.
+pub fn files_of(words: &[String]) -> Option<(Order, &[String])>
+    ensures { MatchOption result (AsksNothing (map string_bytes words.now)) (λ row. AsksForAll (map string_bytes words.now) row.0 (map string_bytes row.1.now)) }
 {
-    let (flag, rest) = words.split_first()?;
-    if flag.as_str() == ALL {
-        only_word(rest)
-    } else {
-        None
+    if let Some(names) = names_behind_flag(words) {
+        return Some((Order::All, names));
     }
-}
-
-/// What the words ask for, and of which file.
-pub fn row_of(words: &[String]) -> Option<(Order, &str)>
-    ensures { MatchOption result (AsksNothing (map string_bytes words.now)) (λ row. AsksFor (map string_bytes words.now) row.0 row.1.now) }
-{
-    if let Some(name) = word_behind_flag(words) {
-        return Some((Order::All, name));
-    }
-    let name = only_word(words)?;
-    if name == ALL {
-        None
-    } else {
-        Some((Order::Why, name))
-    }
+    let names = only_names(words)?;
+    Some((Order::Why, names))
 }
