@@ -36,11 +36,11 @@ module _ (P : Program) (rel : ℕ → List PathData) where
 
   blaming_within : (n : ℕ) (xs : List ExplainedData) → AreAmongMethods n xs → AreBlamingWithin n (secondhand P rel xs)
   blaming_within n [] w = tt
-  blaming_within n (x ∷ xs) w = by (blamed P rel x.why)
+  blaming_within n (x ∷ xs) w = by (blamed P rel x.why) (blaming_within n xs w.1)
     where
-      by : (o : Option ℕ) → AreBlamingWithin n (behind x o ++ secondhand P rel xs)
-      by None = blaming_within n xs w.1
-      by (Some m) = (w.0, blaming_within n xs w.1)
+      by : (o : Option ℕ) → AreBlamingWithin n (secondhand P rel xs) → AreBlamingWithin n (behind x o ++ secondhand P rel xs)
+      by None rest = rest
+      by (Some m) rest = (w.0, rest)
 
   pub arranged_within : (n : ℕ) (xs : List ExplainedData) → AreAmongMethods n xs → AreAmongMethods n (told_of (arranged P rel xs))
   arranged_within n xs w = within_both n (firsthand P rel xs) (first_blaming [] (secondhand P rel xs)) (own_within n xs w) (first_within n [] (secondhand P rel xs) (blaming_within n xs w))

@@ -1,5 +1,12 @@
 -- The lines of methods, one behind the other.
-use Rattle.std.proofs.Common.{◌≡◌, ℕ, zero, suc, ◌+◌, ◌<◌, ◌≤◌, List, [], ◌∷◌, ◌++◌, map, drop, get_or, length, slice_get, sym, ap, subst, ◌∙◌, append_assoc, append-nil, arith}
+use Rattle.std.proofs.Common.{◌≡◌, ℕ, zero, suc, ◌+◌, ◌<◌, ◌≤◌, List, [], ◌∷◌, ◌++◌, map, drop, get_or, length, slice_get, sym, ap, subst, ◌∙◌, append_assoc, append-nil, arith, Some, Bor, option_map}
+use Rattle.syntax.specs.Views.{member_of}
+use Rattle.syntax.specs.declared.tree.Member.{Member}
+use Rattle.std.proofs.lemmas.Option.{slice_get-map, slice_get-get_or}
+use Rattle.places.specs.Sources.{member_places}
+use Rattle.places.specs.Slots.{member_slots}
+use Rattle.syntax.specs.Trees.{MemberTree}
+use Rattle.classes.specs.Table.{TableData}
 use Rattle.std.proofs.Math.ListN.{drop_of_length-le}
 use Rattle.base.proofs.Lists.{next_drop}
 use Rattle.core_program.specs.Core.{Program}
@@ -11,7 +18,7 @@ use Rattle.rules.specs.Effect.{Assignment}
 use Rattle.explain_text.specs.declared.arranging.Arranged.{Arranged}
 use Rattle.explain_text.specs.Arrangements.{ArrangedData, IsArrangedBlock}
 use Rattle.explain_text.specs.ArrangementViews.{arranged_data}
-use Rattle.explain_commands.specs.Explained.{AreTexts, AreAmongMethods, aliases_at, more, none, told_of}
+use Rattle.explain_commands.specs.Explained.{AreTexts, AreAmongMethods, aliases_at, more, none, told_of, page_of, slots_at, places_at}
 use Rattle.explain_commands.specs.Listed.{all_lines, lines_from}
 
 -- ---- the listing
@@ -24,6 +31,15 @@ module _ (P : Program) (rel : ℕ → List PathData) (A : Assignment) (pages : �
       sym (append-nil text) ∙ ap (λ ms. text ++ lines_from P rel A pages k (map method_of ms)) (sym (drop_of_length-le methods past)) ∙ so_far ∙ ap (lines_from P rel A pages 0) are
 
 -- ---- explanations
+
+-- the member at a place
+pub member_at : (xs : List (Bor Member)) (k : ℕ) (x : Bor Member) → k < length xs → x ≡ get_or xs k x → slice_get (map (λ m. member_of m.now) xs) k ≡ Some (member_of x.now)
+member_at xs k x below is = slice_get-map (λ m. member_of m.now) xs k ∙ ap (option_map (λ m. member_of m.now)) (slice_get-get_or xs k x below ∙ ap Some (sym is))
+
+-- what the lines of a method are written with, from the names and the offsets of the member that it is
+pub page_is : (name text : List ℕ) (table : TableData) (methods : List MemberTree) (m : ℕ) (member : MemberTree) (slots : List (List ℕ)) (offsets : List ℕ) → slice_get methods m ≡ Some member
+    → slots ≡ member_slots member → offsets ≡ member_places member → record { file = name; text = text; table = table; slots = slots; offsets = offsets } ≡ page_of name text table methods m
+page_is name text table methods m member slots offsets at s o = λ i. record { file = name; text = text; table = table; slots = (s ∙ ap slots_at (sym at)) i; offsets = (o ∙ ap places_at (sym at)) i }
 
 -- what was found, seen in another list that is the same
 pub arranged_in : (xs ys : List Arranged) (all : List ArrangedData) → xs ≡ ys → map arranged_data ys ≡ all → map arranged_data xs ≡ all

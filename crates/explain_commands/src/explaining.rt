@@ -49,11 +49,11 @@ fn add_block<A: Assigned>(
         (page_of told.now.file.now told.now.index.now (table_data told.now.source.now.table) (map (λ m. member_of m.now) told.now.methods.now.items) x.now.told.method)
         (row_at over.now) (aliases_at (program_of walk.now.program.now) (slice_get (program_of walk.now.program.now).methods x.now.told.method)) (arranged_data x.now) lines) }
 {
-    let method = x.told.method;
-    let member = told.methods[method.0 as usize];
+    let found = &x.told;
+    let member = told.methods[found.method.0 as usize];
     let offsets = method_places(walk.alloc, member)?;
     let slots = slot_names(walk.alloc, member)?;
-    let known = aliases_of(walk.alloc, walk.program, method)?;
+    let known = aliases_of(walk.alloc, walk.program, found.method)?;
     let page = Page {
         file: told.file,
         index: told.index,

@@ -1,0 +1,32 @@
+-- The page of the method's member.
+use Rattle.std.proofs.Common.{◌≡◌, ◌++◌, ℕ, List, OnOk, ap, get_or, ◌∙◌, map, string_bytes, subst}
+use Rattle.classes.specs.Views.{table_data}
+use Rattle.core_program.specs.Views.{program_of}
+use Rattle.explain_commands.specs.Explained.{page_of}
+use Rattle.explain_commands.proofs.Writing.{member_at, page_is}
+use Rattle.explain.specs.declared.names.Alias.{Alias}
+use Rattle.explain.specs.declared.program.Explained.{Explained}
+use Rattle.explain_text.specs.Pages.{PageData}
+use Rattle.explain_text.specs.Arrangements.{IsArrangedBlock}
+use Rattle.explain_text.specs.ArrangementViews.{arranged_data}
+use Rattle.rules.specs.Near.{rel_of}
+use Rattle.rules.specs.Search.{row_at}
+use Rattle.syntax.specs.Views.{member_of}
+use Rattle.explain_commands.proofs.explaining.add_block.Goals as goal
+
+pub returns : goal.returns
+returns g c =
+    let told = c.args.told.now in
+    let walk = c.args.walk.now in
+    let P = program_of walk.program.now in
+    let m = c.args.x.now.told.method in
+    let members = map (λ x. member_of x.now) told.methods.now.items in
+    let member = member_of c.index-member.result.now.now in
+    let items = told.methods.now.items in
+    let here = ap (λ (k : ℕ). get_or items k c.index-member.result.now) (ap (λ (e : Explained). e.method) c.found.view_is) in
+    let at = member_at items m c.index-member.result.now c.requires (c.index-member.ensures ∙ here) in
+    let page = page_is told.file.now told.index.now (table_data told.source.now.table) members m member c.in_ok-slots.slots c.as_slice.result.now at c.in_ok-slots.ensures (c.as_slice.ensures.value ∙ c.in_ok-offsets.ensures) in
+    let block = λ (pg : PageData) (al : List Alias). OnOk c.write_arranged.result ((text : List ℕ) × (string_bytes c.write_arranged.new.out ≡ string_bytes c.args.text.now ++ text)
+    × IsArrangedBlock P (rel_of walk.sets.now) (g.A.Assigned.assigned walk.assigned.now) pg (row_at c.args.over.now) al (arranged_data c.args.x.now) text) in
+    subst (λ al. block (page_of told.file.now told.index.now (table_data told.source.now.table) members m) al) (c.as_slice-2.ensures.value ∙ c.in_ok-known.ensures)
+    (subst (λ pg. block pg c.as_slice-2.result.now) page c.write_arranged.ensures)
