@@ -50,13 +50,40 @@ def events_of(path: Path) -> list[Event]:
     return found
 
 
-def shared_objects(events: list[Event]) -> set[str]:
-    """The objects that more than one thread touches."""
-    threads = defaultdict(set)
-    for event in events:
-        if event.action in ACCESSES:
-            threads[event.object].add(event.thread)
-    return {name for name, users in threads.items() if len(users) > 1}
+@dataclass(frozen=True)
+class Sharing:
+    """Which objects several threads touch: for each the line in which the second one comes, and the last line before
+    that in which the first one touches it; and the places that are written from then on."""
+
+    since: dict[str, int]
+    alone: dict[str, tuple[str, int]]
+    written: set[str]
+
+    def is_alone(self, event: Event, line: int) -> bool:
+        """Whether no other thread has touched the object of this access before a line."""
+        return event.object not in self.since or line < self.since[event.object]
+
+    def is_early(self, event: Event) -> bool:
+        """Whether this is an access of an object that no other thread has touched yet."""
+        return self.is_alone(event, event.line)
+
+    def is_seen(self, event: Event) -> bool:
+        """Whether other threads may see this access: what nobody writes any more when they come gives the same."""
+        return not self.is_early(event) and event.target in self.written
+
+
+def sharing_of(events: list[Event]) -> Sharing:
+    """The objects that several threads touch."""
+    found = Sharing({}, {}, set())
+    for event in (each for each in events if each.action in ACCESSES):
+        if event.object not in found.since:
+            if found.alone.setdefault(event.object, (event.thread, event.line))[0] == event.thread:
+                found.alone[event.object] = (event.thread, event.line)
+            else:
+                found.since[event.object] = event.line
+        if event.object in found.since and event.action != "read":
+            found.written.add(event.target)
+    return found
 
 
 def with_held(events: list[Event]) -> Iterator[tuple[Event, dict[str, int]]]:
@@ -69,20 +96,21 @@ def with_held(events: list[Event]) -> Iterator[tuple[Event, dict[str, int]]]:
             mine[event.target] += 1 if event.action == "take" else -1
 
 
-def guards_of(events: list[Event], told: set[int], actions: tuple[str, ...]) -> dict[str, set[str]]:
-    """For each place the locks that are held at every such access of it; what stands in these lines, which are told as
-    errors, is left out."""
+def guards_of(events: list[Event], told: set[int], actions: tuple[str, ...], sharing: Sharing) -> dict[str, set[str]]:
+    """For each place the locks that are held at every such access of it. What stands in these lines, which are told as
+    errors, is left out, and so is what one thread did before others touched the object."""
     guards: dict[str, set[str]] = {}
     for event, held in with_held(events):
-        if event.action in actions and event.line not in told:
+        if event.action in actions and event.line not in told and not sharing.is_early(event):
             guards[event.target] = guards.get(event.target, set(held)) & set(held)
     return guards
 
 
-def kinds_of(events: list[Event], told: set[int]) -> dict[int, str]:
-    """The kind of each event by its line: right, left, both, or none of them."""
-    guards, shared, kinds = guards_of(events, told, ACCESSES), shared_objects(events), {}
-    writers = guards_of(events, told, ("write", "change"))
+def kinds_of(events: list[Event], told: set[int], sharing: Sharing) -> dict[int, str]:
+    """The kind of each event by its line: right, left, both, or none of them; early, where no other thread has touched
+    the object yet."""
+    guards, kinds = guards_of(events, told, ACCESSES, sharing), {}
+    writers = guards_of(events, told, ("write", "change"), sharing)
     for event, held in with_held(events):
         kind = "both"
         if event.action == "take" and not held.get(event.target):
@@ -91,7 +119,9 @@ def kinds_of(events: list[Event], told: set[int]) -> dict[int, str]:
             kind = "left"
         elif event.action == "join":
             kind = "right"
-        elif event.action in ACCESSES and event.object in shared and not guards.get(event.target):
+        elif event.action in ACCESSES and sharing.is_early(event):
+            kind = "early"
+        elif event.action in ACCESSES and sharing.is_seen(event) and not guards.get(event.target):
             alone = event.action == "read" and writers.get(event.target, set()) & set(held)
             kind = "both" if alone else "none"
         kinds[event.line] = kind
@@ -144,10 +174,26 @@ def counted(events: list[Event], repeats: dict[str, str]) -> list[Event]:
     return kept
 
 
-def is_reducible(kinds: list[str]) -> bool:
-    """Whether right and both movers come first, then at most one other step, then left and both movers."""
-    letters = "".join({"right": "R", "left": "L", "both": "B", "none": "N"}[kind] for kind in kinds)
-    return re.fullmatch(r"[RB]*N?[LB]*", letters) is not None
+def comes_later(event: Event, kind: str, behind: Event, sharing: Sharing) -> bool:
+    """Whether a step can be moved later, up to another one of its thread. One of an object that is the thread's own
+    until then can."""
+    return kind in ("right", "both") or kind == "early" and sharing.is_alone(event, behind.line)
+
+
+def comes_earlier(event: Event, kind: str, behind: Event, sharing: Sharing) -> bool:
+    """Whether a step can be moved earlier, up to another one of its thread. What others did with the object while it
+    was their own has to stand in front of that: they hold no lock then."""
+    owner, last = sharing.alone.get(event.object, (event.thread, 0)) if event.action in ACCESSES else (event.thread, 0)
+    return kind == "early" or kind in ("left", "both") and (owner == event.thread or last < behind.line)
+
+
+def is_reducible(steps: list[Event], kinds: dict[int, str], sharing: Sharing) -> bool:
+    """Whether there is a step up to which those in front of it can be moved later, and those behind it earlier."""
+    return not steps or any(
+        all(comes_later(each, kinds[each.line], steps[at], sharing) for each in steps[:at])
+        and all(comes_earlier(each, kinds[each.line], steps[at], sharing) for each in steps[at + 1 :])
+        for at in range(len(steps))
+    )
 
 
 def as_log(events: list[Event], texts: list[str], atomic: set[str], repeats: dict[str, str]) -> str:

@@ -9,7 +9,7 @@ from collections.abc import Callable
 from dataclasses import dataclass
 from pathlib import Path
 
-from java_logs import ACCESSES, Event
+from java_logs import ACCESSES, Event, Sharing
 
 TOKEN = re.compile(r"[()]|[^\s()]+")
 LOCKS = ("take", "give")
@@ -181,9 +181,9 @@ def without_idle_calls(events: list[Event]) -> list[Event]:
     return kept
 
 
-def unseen(methods: list[Method], events: list[Event], shared: set[str], place: str) -> Event | None:
+def unseen(methods: list[Method], events: list[Event], sharing: Sharing, place: str) -> Event | None:
     """The first event of a block that isn't on any path of the method at a place; none where all are."""
-    steps = [event for event in events if event.action not in ACCESSES or event.object in shared]
+    steps = [event for event in events if event.action not in ACCESSES or sharing.is_seen(event)]
     steps = [event for event in steps if event.action not in ("start", "join", "failed", "stopped")]
     if steps and steps[-1].action in ("end", "leave"):
         steps.pop()

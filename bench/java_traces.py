@@ -17,7 +17,7 @@ from collections import Counter
 from dataclasses import dataclass, field
 from pathlib import Path
 
-from java_logs import as_log, behind_waits, blocks_of, counted, events_of, is_reducible, kinds_of, shared_objects
+from java_logs import as_log, behind_waits, blocks_of, counted, events_of, is_reducible, kinds_of, sharing_of
 from java_paths import Method, repeats_of, skeleton_of, unseen
 from java_sources import PROGRAM, TOP, run
 
@@ -93,13 +93,14 @@ def look(source: Judged, log: Path, counts: Counts) -> str:
         if event.action in ("begin", "enter") and int(event.target.rpartition("@")[2].split(":")[0]) in source.unguarded
     }
     told = {event.line for block in blocks_of(events, unguarded) for event in block.events}
-    kinds, shared = kinds_of(events, told), shared_objects(events)
+    sharing = sharing_of(events)
+    kinds = kinds_of(events, told, sharing)
     counts.runs += 1
     for block in blocks_of(events, promised):
         if not block.ended:
             continue
         steps = counted(behind_waits(block), source.repeats)
-        reducible = is_reducible([kinds[event.line] for event in steps])
+        reducible = is_reducible(steps, kinds, sharing)
         if block.name not in atomic:
             counts.others += 1
             counts.broken[f"{source.path.name}: {block.name}"] += not reducible
@@ -108,7 +109,7 @@ def look(source: Judged, log: Path, counts: Counts) -> str:
         counts.steps += len(block.events)
         if not reducible:
             counts.wrong.append(f"{log.name}: {block.name} in line {block.events[0].line} isn't reducible")
-        missing = unseen(source.skeleton, steps, shared, block.name.rpartition("@")[2])
+        missing = unseen(source.skeleton, steps, sharing, block.name.rpartition("@")[2])
         if missing:
             counts.wrong.append(
                 f"{log.name}:{missing.line}: {block.name}: the skeleton lacks {missing.action} {missing.target} "
