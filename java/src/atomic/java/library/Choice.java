@@ -44,6 +44,9 @@ public record Choice(Kind kind, boolean calls, boolean fills, boolean keeps, boo
     /** A method that no row speaks of. */
     public static final Choice UNKNOWN = new Choice(Kind.UNKNOWN, false, false, true, false, null);
 
+    /** The making of an object of a class that no row speaks of, which keeps what it is made of and does nothing else. */
+    static final Choice MADE = new Choice(Kind.PURE, false, false, true, false, null);
+
     /** The choice that a word of the table spells: a kind, and flags behind plus signs. */
     static Choice of(String word) {
         String[] words = word.split("\\+");

@@ -26,6 +26,9 @@ import javax.lang.model.util.Types;
 /** The table of library classes: what a call of each method counts as ({@code library.txt} says how it is written). */
 public final class Library {
 
+    /** Packages whose classes only keep what they are made of; making an object of another package may do anything. */
+    private static final List<String> PLAIN = List.of("java.lang.", "java.util.", "java.math.", "java.text.", "java.time.");
+
     /** The choices for one class: by the names of its methods, {@code *} for all others, {@code new} to make one. */
     private final Map<String, Map<String, Choice>> rows = new HashMap<>();
     private final Map<String, List<String>> above = new HashMap<>();
@@ -99,12 +102,13 @@ public final class Library {
             if (members != null) {
                 Choice others = plain.equals("new") ? null : members.get("*");
                 Choice choice = members.getOrDefault(method, members.getOrDefault(plain, others));
-                if (choice != null) {
+                boolean made = plain.equals("new") && name.equals("java.lang.Object") && !names.get(0).equals(name);
+                if (choice != null && !made) {
                     return choice;
                 }
             }
         }
-        return Choice.UNKNOWN;
+        return plain.equals("new") && PLAIN.stream().anyMatch(names.get(0)::startsWith) ? Choice.MADE : Choice.UNKNOWN;
     }
 
     /** Whether objects of the type hold contents that aren't safe by themselves. */

@@ -111,7 +111,9 @@ final class Confinement {
             source(each.value());
         }
         if (variable.getKind() == ElementKind.FIELD && variable != field) {
-            need(isNested(program.find(variable.getEnclosingElement())));
+            JavaClass owner = program.find(variable.getEnclosingElement());
+            need(isNested(owner) && !Ownership.isOpen(variable)
+                && (variable.getModifiers().contains(Modifier.PRIVATE) || isHidden(owner)));
         } else if (variable.getKind() != ElementKind.FIELD && variable.getKind() != ElementKind.LOCAL_VARIABLE) {
             parameter(variable);
         }
@@ -194,12 +196,16 @@ final class Confinement {
 
     /** Whether only code of the same source can call a method. Another one that nobody here calls is for others. */
     private static boolean isHidden(JavaMethod method) {
-        for (JavaClass each = method.owner(); each != null; each = each.outer()) {
+        return method.isPrivate() || isHidden(method.owner());
+    }
+
+    private static boolean isHidden(JavaClass owner) {
+        for (JavaClass each = owner; each != null; each = each.outer()) {
             if (each.symbol().getModifiers().contains(Modifier.PRIVATE) || each.symbol().getSimpleName().isEmpty()) {
                 return true;
             }
         }
-        return method.isPrivate();
+        return false;
     }
 
     /** Whether a method belongs to the field's class, or to one within it. */
@@ -261,13 +267,14 @@ final class Confinement {
         }
     }
 
-    /** Whether an argument goes to a method that is only called here. */
+    /** Whether an argument goes to a method that is only called here. What a record is made of, its accessors give away. */
     private boolean intoParameter(Tree parent, Tree tree) {
         List<? extends ExpressionTree> arguments = parent instanceof MethodInvocationTree call ? call.getArguments()
             : parent instanceof NewClassTree making ? making.getArguments() : List.of();
         JavaMethod method = program.method(attribution.element(parent));
         int at = arguments.indexOf(tree);
-        if (method == null || at < 0 || method.symbol().isVarArgs() || !isClosed(method)) {
+        if (method == null || at < 0 || method.symbol().isVarArgs() || !isClosed(method)
+                || method.isConstructor() && method.owner().symbol().getKind() == ElementKind.RECORD) {
             return false;
         }
         add(method.symbol().getParameters().get(at));

@@ -43,6 +43,7 @@ public final class Escape {
     private final Attribution attribution;
     private final Uses uses;
     private final Selves selves;
+    private final Results results;
     private final Set<Element> visited = new HashSet<>();
     private final Map<Element, Long> throughs = new HashMap<>();
 
@@ -51,6 +52,7 @@ public final class Escape {
         this.uses = uses;
         attribution = program.attribution();
         selves = new Selves(program, this);
+        results = new Results(attribution);
     }
 
     /** Where {@code this} gets away in a method. */
@@ -80,6 +82,9 @@ public final class Escape {
             return isCalledAtOnce(reference) ? NEVER : attribution.start(reference);
         } else if (parent instanceof ConditionalExpressionTree condition) {
             return condition.getCondition() == use ? NEVER : from(parent);
+        } else if (parent instanceof EnhancedForLoopTree loop && results.mentionsEntry(
+                attribution.element(loop.getVariable()).asType())) {
+            return through(attribution.element(loop.getVariable()));
         } else if (parent instanceof EnhancedForLoopTree || parent instanceof ArrayAccessTree
                 || parent instanceof BinaryTree || parent instanceof InstanceOfTree instance && instance.getPattern() == null) {
             return NEVER;
@@ -111,7 +116,7 @@ public final class Escape {
         return switch (choice.kind()) {
             case VIEW, PIPE -> from(call);
             case UNKNOWN -> unknown(call);
-            default -> NEVER;
+            default -> results.isEntry(call) ? from(call) : NEVER;
         };
     }
 
@@ -135,10 +140,20 @@ public final class Escape {
         }
         return switch (choice.kind()) {
             case VIEW -> from(call);
-            case PURE, ASSUMED, READS, RUN -> choice.keeps() ? attribution.start(call) : NEVER;
+            case PURE, ASSUMED, READS, RUN -> choice.keeps() ? attribution.start(call) : given(call, use);
             case UNKNOWN -> unknown(call);
             default -> attribution.start(call);
         };
+    }
+
+    /** What a call that keeps nothing was given may come back as what it gives, or within that. */
+    private long given(MethodInvocationTree call, Tree use) {
+        if (results.keepsNothing(call)) {
+            return NEVER;
+        } else if (results.mayBe(call, use)) {
+            return from(call);
+        }
+        return !results.mayHold(call, use) || results.isDropped(call) ? NEVER : attribution.start(call);
     }
 
     /** A call of which nothing is known may keep an object, and may not where only what is certain counts. */

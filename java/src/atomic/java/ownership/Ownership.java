@@ -258,9 +258,13 @@ public final class Ownership {
         return type == null ? null : attribution.types().erasure(type).toString();
     }
 
-    /** Whether anybody may touch a field; what the package's other files and classes below do is told as an assumption. */
-    private static boolean isOpen(VariableElement field) {
-        return field.getModifiers().contains(Modifier.PUBLIC);
+    /**
+     * Whether anybody may touch a field, or get at what it holds by a record's accessor, which nobody wrote; what the
+     * package's other files and classes below do is told as an assumption.
+     */
+    static boolean isOpen(VariableElement field) {
+        return field.getModifiers().contains(Modifier.PUBLIC)
+            || field.getEnclosingElement().getKind() == ElementKind.RECORD && !field.getModifiers().contains(Modifier.STATIC);
     }
 
     /** Whether the contents of what a field holds are the field's: it is hidden, made for it, and never gets away. */

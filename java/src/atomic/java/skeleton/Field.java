@@ -20,6 +20,7 @@ public final class Field {
     private boolean ordered;
     private boolean ofNodes;
     private boolean contents;
+    private boolean lock;
     private Field one;
 
     /** A field of {@code owner}; without a type it holds a number; {@code fixed} says that it is final. */
@@ -102,6 +103,15 @@ public final class Field {
 
     public void standForContents() {
         contents = true;
+    }
+
+    /** Whether it holds a lock with methods, whose monitor is another lock. */
+    public boolean isLock() {
+        return lock;
+    }
+
+    public void standForLock() {
+        lock = true;
     }
 
     /** Whether it stands for a field of a container's nodes, of which one may be new where it is touched. */

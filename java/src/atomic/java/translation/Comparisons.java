@@ -10,9 +10,11 @@ import com.sun.source.tree.MemberSelectTree;
 import com.sun.source.tree.MethodInvocationTree;
 import com.sun.source.tree.Tree;
 import java.util.ArrayList;
+import java.util.HashSet;
 import java.util.List;
 import java.util.Set;
 import javax.lang.model.element.ElementKind;
+import javax.lang.model.element.RecordComponentElement;
 import javax.lang.model.type.ArrayType;
 import javax.lang.model.type.DeclaredType;
 import javax.lang.model.type.TypeKind;
@@ -38,6 +40,7 @@ final class Comparisons {
 
     private final Services services;
     private final Body body;
+    private final Set<JavaClass> inside = new HashSet<>();
 
     Comparisons(Services services, Body body) {
         this.services = services;
@@ -56,7 +59,7 @@ final class Comparisons {
         String type = shown.substring(0, shown.lastIndexOf('.') + 1);
         String name = shown.substring(type.length());
         boolean ordered = type.contains("Set") || type.contains("Priority") && type.contains("Queue");
-        boolean compares = COMPARING.contains(name) || type.equals("Objects.") || name.equals("add") && ordered;
+        boolean compares = COMPARING.contains(name) || shown.equals("Map.of") || shown.equals("Set.of") || type.equals("Objects.") || name.equals("add") && ordered;
         for (ExpressionTree argument : called.arguments()) {
             if (compares) {
                 argument(argument, called.at());
@@ -79,7 +82,7 @@ final class Comparisons {
     }
 
     /** A call that is given a whole collection may compare its elements, or make texts of them. */
-    private void elements(TypeMirror type, LibraryCalls.Called called) {
+    void elements(TypeMirror type, LibraryCalls.Called called) {
         if (type instanceof ArrayType array) {
             element(array.getComponentType(), called);
         } else if (type instanceof DeclaredType declared && services.program().find(type) == null) {
@@ -118,6 +121,7 @@ final class Comparisons {
     /** The methods of these names that an object of a class at hand may have: any of them, or none. */
     void own(JavaClass known, Set<String> names, Tree at) {
         List<Part> calls = new ArrayList<>();
+        names.forEach(name -> parts(known, name, at));
         for (JavaClass each : services.program().classes()) {
             boolean kin = services.families().isBelow(each, known) || services.families().isBelow(known, each);
             for (JavaMethod method : kin ? each.methods() : List.<JavaMethod>of()) {
@@ -132,6 +136,20 @@ final class Comparisons {
             Part one = Dispatch.either(calls);
             body.emit(names == TEXT ? one : new Part.Repeat(one, services.attribution().name(at)));
         }
+    }
+
+    /** A record's own methods, which nobody wrote, call those of its parts. */
+    void parts(JavaClass known, String name, Tree at) {
+        boolean written = !ALL.contains(name) || known.methods().stream().anyMatch(each ->
+            each.symbol().getSimpleName().contentEquals(name));
+        boolean begun = written || !inside.add(known);
+        for (var part : begun ? List.<RecordComponentElement>of() : known.symbol().getRecordComponents()) {
+            JavaClass type = services.program().find(part.asType());
+            if (type != null) {
+                own(type, Set.of(name), at);
+            }
+        }
+        inside.remove(begun ? null : known);
     }
 
     private static boolean isFunction(JavaClass known) {

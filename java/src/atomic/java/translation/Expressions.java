@@ -158,6 +158,9 @@ final class Expressions extends SimpleTreeVisitor<Value, Void> {
     @Override
     public Value visitCompoundAssignment(CompoundAssignmentTree tree, Void nothing) {
         accesses.assign(tree.getVariable(), tree.getExpression(), true, this);
+        if (tree.getKind() == Tree.Kind.PLUS_ASSIGNMENT) {
+            new LibraryCalls(services, body).joined(tree.getExpression(), tree);
+        }
         return Value.OPAQUE;
     }
 

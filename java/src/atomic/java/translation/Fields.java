@@ -28,6 +28,10 @@ import javax.lang.model.element.VariableElement;
 /** The skeleton's fields: which one stands for a Java field, and for the contents of what it holds. */
 public final class Fields {
 
+    private static final List<String> LOCKS = List.of("java.util.concurrent.locks.Lock",
+        "java.util.concurrent.locks.ReadWriteLock", "java.util.concurrent.locks.StampedLock",
+        "java.util.concurrent.locks.Condition");
+
     /** Whose field it is in the skeleton. */
     public enum Holder { OBJECT, STATICS, CONTAINER }
 
@@ -132,6 +136,9 @@ public final class Fields {
         boolean contents = !wish.name().contentEquals(java.getSimpleName());
         if (contents) {
             field.standForContents();
+        }
+        if (isLock(java.asType())) {
+            field.standForLock();
         }
         boolean isVolatile = java.getModifiers().contains(Modifier.VOLATILE);
         if (isVolatile && !contents) {
@@ -275,6 +282,15 @@ public final class Fields {
             && !Families.isStatic(java);
         return own && (constructs || each instanceof BlockTree block && block.isStatic() == Families.isStatic(java)
             || each instanceof VariableTree);
+    }
+
+    /** Whether objects of a type are locks with methods, or belong to such. */
+    boolean isLock(javax.lang.model.type.TypeMirror type) {
+        var types = program.attribution().types();
+        return type != null && type.getKind() == javax.lang.model.type.TypeKind.DECLARED && LOCKS.stream().anyMatch(each -> {
+            var known = program.attribution().elements().getTypeElement(each);
+            return known != null && types.isSubtype(types.erasure(type), types.erasure(known.asType()));
+        });
     }
 
     /** Whether the contents of what a field holds are its own. */

@@ -41,7 +41,7 @@ final class Initialisers {
         Expressions expressions = new Expressions(services, body);
         for (Tree member : self.tree().getMembers()) {
             if (member instanceof VariableTree variable && variable.getInitializer() != null
-                    && variable.getModifiers().getFlags().contains(Modifier.STATIC) == statics) {
+                    && (variable.getModifiers().getFlags().contains(Modifier.STATIC) || self.isInterface()) == statics) {
                 expressions.value(variable.getInitializer());
             } else if (member instanceof BlockTree block && block.isStatic() == statics) {
                 statements.all(block.getStatements());

@@ -45,6 +45,9 @@ final class LibraryCalls {
     Value call(MethodInvocationTree tree, ExecutableElement symbol) {
         ExpressionTree before = tree.getMethodSelect() instanceof MemberSelectTree select ? select.getExpression() : null;
         boolean isStatic = symbol.getModifiers().contains(Modifier.STATIC);
+        if (isStatic && services.program().find(symbol.getEnclosingElement()) != null) {
+            new Initialisers(services).start(services.program().find(symbol.getEnclosingElement()), body, tree);
+        }
         Value object = isStatic ? Value.OPAQUE : before == null ? own(symbol, tree) : expressions.value(before);
         if (new Waits(services, body).isWait(tree, symbol, before)) {
             tree.getArguments().forEach(expressions::value);
@@ -117,6 +120,7 @@ final class LibraryCalls {
         Choice choice = called.choice();
         if (choice.kind() != Choice.Kind.UNKNOWN) {
             new Comparisons(services, body).write(called);
+            new Callbacks(services, body).write(called);
             if (Comparisons.joins(called.shown())) {
                 called.arguments().forEach(each -> joined(each, called.at()));
             }
@@ -134,7 +138,9 @@ final class LibraryCalls {
                     body.emit(services.step(called.shown(), false, called.at()));
                     return;
                 }
-                body.emit(services.doubt(Method.Doubt.OPEN, called.shown(), true, body, called.at(),
+                boolean own = choice.runsFunctions() && called.arguments().stream().map(Uses::bare).anyMatch(each ->
+                    each instanceof LambdaExpressionTree || each instanceof MemberReferenceTree);
+                body.emit(services.doubt(own ? Method.Doubt.ANY : Method.Doubt.OPEN, called.shown(), true, body, called.at(),
                     "compound library call: " + called.shown() + " counts as several steps"));
             }
             case READS, WRITES, RUN -> new Contents(services, body).call(called.object(),
@@ -154,7 +160,10 @@ final class LibraryCalls {
 
     /** One step; a task that is handed over with it runs in another thread, unless a class at hand may run it here. */
     private void step(Called called) {
-        if (!called.choice().elsewhere()) {
+        if (services.program().sure() && called.shown().equals("StampedLock.validate")) {
+            // What was looked at without the lock is looked at again where this doesn't hold.
+            return;
+        } else if (!called.choice().elsewhere()) {
             body.emit(services.step(called.shown(), false, called.at()));
         } else if (services.program().options().strict() || isAtHand(called)) {
             unknown(called);
@@ -257,6 +266,7 @@ final class LibraryCalls {
         if (choice.kind() == Choice.Kind.PURE) {
             new Arguments(services, body).lookAt(called, values);
             new Comparisons(services, body).fill(called);
+            new Callbacks(services, body).write(called);
         } else {
             steps(called);
         }
@@ -284,7 +294,7 @@ final class LibraryCalls {
 
     /** A part of a text: its {@code toString} is called. */
     void joined(ExpressionTree part, Tree at) {
-        TypeMirror type = services.attribution().type(part);
+        TypeMirror type = services.attribution().type(Callbacks.written(part));
         if (type == null || type.getKind().isPrimitive() || type.getKind() == TypeKind.NULL
                 || type.getKind() == TypeKind.ARRAY) {
             return;
@@ -297,6 +307,7 @@ final class LibraryCalls {
         Choice choice = services.program().library().choose(type, "toString");
         Called called = new Called(simple(type) + ".toString", Value.OPAQUE, choice, part, List.of());
         if (choice.kind() == Choice.Kind.READS) {
+            new Comparisons(services, body).elements(type, called);
             assume(called);
         } else {
             steps(called);

@@ -45,7 +45,8 @@ final class LockPairs {
         }
         Value left = new Locking(services, body).object(pair.get(0));
         Value right = new Locking(services, body).object(pair.get(1));
-        if (left.path() == null || right.path() == null) {
+        if (left.path() == null || right.path() == null
+                || pair.stream().anyMatch(each -> services.fields().isLock(services.attribution().type(each)))) {
             return false;
         }
         BlockTree block = inner.getBlock();

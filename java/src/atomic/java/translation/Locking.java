@@ -43,8 +43,23 @@ final class Locking {
                 Part.Mode.EXCLUSIVE);
         }
         Part.Mode mode = isShared(tree) ? Part.Mode.SHARED : Part.Mode.EXCLUSIVE;
-        Value value = new Expressions(services, body).value(tree);
+        ExpressionTree stamped = new Stamps(this).lockOf(tree);
+        Value value = new Expressions(services, body).value(stamped == null ? tree : stamped);
         return new Lock(value.path(), mode);
+    }
+
+    /** The monitor of an object. That of a lock or a condition is another lock than this, and has no name. */
+    Lock monitor(ExpressionTree tree) {
+        Lock lock = lock(tree);
+        Path path = lock.path();
+        boolean other = isLock(services.attribution().type(Uses.bare(tree))) || path != null && !path.fields().isEmpty()
+            && path.fields().get(path.fields().size() - 1).isLock();
+        return other ? new Lock(null, Part.Mode.EXCLUSIVE) : lock;
+    }
+
+    /** Whether objects of a type are locks with methods, or belong to such. */
+    boolean isLock(TypeMirror type) {
+        return services.fields().isLock(type);
     }
 
     /** The object that an expression gives, without its steps. */
@@ -72,7 +87,8 @@ final class Locking {
 
     /** The lock that a statement takes, gives back or tries to take, where it does; null elsewhere. */
     ExpressionTree operand(StatementTree statement, String... names) {
-        return statement instanceof ExpressionStatementTree expression ? operand(expression.getExpression(), names) : null;
+        ExpressionTree stamped = new Stamps(this).operand(statement, List.of(names).contains("unlock"));
+        return stamped != null ? stamped : statement instanceof ExpressionStatementTree expression ? operand(expression.getExpression(), names) : null;
     }
 
     /** The same of an expression. */
@@ -157,8 +173,9 @@ final class Locking {
 
     /** Whether two expressions mean the same lock: they are written alike, or their locks have one name. */
     boolean areSame(ExpressionTree one, ExpressionTree other) {
-        if (one.toString().equals(other.toString())) {
-            return true;
+        Boolean stamps = new Stamps(this).areSame(one, other);
+        if (stamps != null || one.toString().equals(other.toString())) {
+            return stamps == null || stamps;
         }
         Lock[] locks = new Lock[2];
         body.collect(() -> locks[0] = lock(one));

@@ -272,7 +272,8 @@ public final class Methods {
             return;
         }
         Value me = body.me(services.attribution().start(block));
-        Path lock = method.isStatic() ? services.fields().classLock(method.owner(), body.statics()) : me.path();
+        Path lock = method.isStatic() ? services.fields().classLock(method.owner(), body.statics())
+            : services.fields().isLock(body.self().symbol().asType()) ? null : me.path();
         Part inside = body.collect(() -> statements.all(block.getStatements()));
         body.emit(me instanceof Value.Fresh ? inside
             : new Part.Region(lock, Part.Mode.EXCLUSIVE, inside, method.place()));

@@ -65,6 +65,8 @@ final class Statements extends SimpleTreeVisitor<Void, Void> {
             int locked = looked > 0 ? looked - 1 : regions.region(statement, rest);
             if (looked > 0 || locked > 0) {
                 k += locked;
+            } else if (services.program().sure() && Stamps.looks(statement) && Stamps.behind(rest).size() < rest.size()) {
+                k += rest.size() - Stamps.behind(rest).size();
             } else if (statement instanceof IfTree branch && branches(branch, rest)) {
                 return;
             } else {
@@ -240,7 +242,7 @@ final class Statements extends SimpleTreeVisitor<Void, Void> {
             return null;
         }
         ExpressionTree operand = Uses.bare(tree.getExpression());
-        Locking.Lock lock = new Locking(services, body).lock(operand);
+        Locking.Lock lock = new Locking(services, body).monitor(operand);
         Value object = operand.getKind() == Tree.Kind.IDENTIFIER ? new Locking(services, body).object(operand) : null;
         Part inside = part(tree.getBlock());
         body.emit(object instanceof Value.Fresh ? inside

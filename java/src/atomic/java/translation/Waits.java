@@ -37,7 +37,8 @@ final class Waits {
     private Path lockOf(MethodInvocationTree tree, ExpressionTree before) {
         Value object = before == null ? body.me(services.attribution().start(tree))
             : new Locking(services, body).object(before);
-        return object == null ? null : object.path();
+        boolean other = before != null && services.fields().isLock(services.attribution().type(Uses.bare(before)));
+        return object == null || other ? null : object.path();
     }
 
     /** A condition's lock: the one whose {@code newCondition} made it. */
