@@ -38,17 +38,24 @@ public final class Checker implements AutoCloseable {
 
     /** A text that is being judged. */
     public final class Question {
+        private final Path file;
         private final Future<Answer> explained;
         private final Future<Answer> listed;
 
-        private Question(Future<Answer> explained, Future<Answer> listed) {
-            this.explained = explained;
-            this.listed = listed;
+        private Question(Path file, boolean listed) {
+            this.file = file;
+            this.explained = runs.submit(() -> answer(file));
+            this.listed = listed ? runs.submit(() -> answer(file, "--all")) : null;
         }
 
         /** Waits for the explanations alone. */
         public Answer explained() {
             return wait(explained);
+        }
+
+        /** Waits for what each part is, and asks for it where nobody has. */
+        public Answer listed() {
+            return wait(listed != null ? listed : runs.submit(() -> answer(file, "--all")));
         }
 
         /** Waits for all that was asked. */
@@ -76,7 +83,7 @@ public final class Checker implements AutoCloseable {
             Path file = Files.createTempFile("atomic-java-", ".skeleton");
             files.add(file);
             Files.write(file, text);
-            return new Question(runs.submit(() -> answer(file)), listed ? runs.submit(() -> answer(file, "--all")) : null);
+            return new Question(file, listed);
         } catch (IOException fault) {
             throw new Refusal(Options.NO_CHECKER, "cannot write a file for " + program + ": " + fault.getMessage());
         }

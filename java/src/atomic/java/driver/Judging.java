@@ -30,8 +30,9 @@ import java.util.stream.Collectors;
  * the first answer is looked at, and the answers are taken in the same order, so that nothing depends on which comes first.
  */
 final class Judging {
-    private static final Pattern LISTED = Pattern.compile("\\d+:\\d+: (\\w+): (\\S+) 0");
+    private static final Pattern LISTED = Pattern.compile("(\\d+:\\d+): (\\w+): (\\S+) 0");
     private static final Pattern REFUSED = Pattern.compile("(\\d+):(\\d+): error: (.*)");
+    private static final String COUNTED = " [more-errors]";
     private static final int MOST_REPAIRS = 500;
 
     private final Program program;
@@ -124,7 +125,7 @@ final class Judging {
             Checker.Answers answers = piece.question.answers();
             Checker.Answer told = answers.explained();
             if (told.status() != Options.NOT_JAVA && told.status() != Options.TOO_LARGE) {
-                accept(piece.text, answers);
+                accept(piece, answers);
                 return;
             }
             if (piece.repaired == repairs) {
@@ -135,16 +136,44 @@ final class Judging {
         throw new Refusal(Options.TOO_LARGE, "the sources break too many limits of the checker");
     }
 
-    private void accept(Text text, Checker.Answers told) {
+    private void accept(Piece piece, Checker.Answers told) {
         status = Math.max(status, told.explained().status());
-        texts.add(text);
-        lines.addAll(new Answer(text, program.names()).lines(told.explained().lines()));
+        texts.add(piece.text);
+        List<String> all = new ArrayList<>(told.explained().lines());
+        if (all.removeIf(each -> each.endsWith(COUNTED))) {
+            all.addAll(counted(piece, all));
+        }
+        lines.addAll(new Answer(piece.text, program.names()).lines(all));
         for (String line : told.listed().lines()) {
             Matcher parts = line.endsWith(" 0") ? LISTED.matcher(line) : null;
             if (parts != null && parts.matches()) {
-                found.put(parts.group(2), parts.group(1));
+                found.put(parts.group(3), parts.group(2));
             }
         }
+    }
+
+    /**
+     * The errors of methods that the checker only counts: those that are errors since they call one that is, beside the
+     * first that is told. In Java each method that is refused is told at its place.
+     */
+    private static List<String> counted(Piece piece, List<String> told) {
+        Set<String> atomic = piece.wanted.stream().filter(Method::atomic).map(Judging::name).collect(Collectors.toSet());
+        Set<String> heads = told.stream().filter(each -> each.contains(Certainty.ERROR))
+            .map(each -> each.substring(0, each.indexOf(Certainty.ERROR))).collect(Collectors.toSet());
+        List<String> more = new ArrayList<>();
+        for (String line : piece.question.listed().lines()) {
+            Matcher parts = LISTED.matcher(line);
+            if (parts.matches() && parts.group(2).equals("error") && heads.add(parts.group(1))) {
+                more.add(parts.group(1) + Certainty.ERROR + parts.group(3) + " is declared "
+                    + (atomic.contains(parts.group(3)) ? "atomic" : "cmpd") + ", found error");
+                more.add(parts.group(1) + ": note: calls a method that is an error itself");
+            }
+        }
+        return more;
+    }
+
+    private static String name(Method method) {
+        return method.owner().name() + "." + method.name();
     }
 
     /** Makes the method compound that the checker can't read. */
@@ -236,6 +265,6 @@ final class Judging {
 
     /** What a method of the skeleton was found to be. */
     String found(Method method) {
-        return found.getOrDefault(method.owner().name() + "." + method.name(), "const");
+        return found.getOrDefault(name(method), "const");
     }
 }
