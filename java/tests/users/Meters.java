@@ -185,7 +185,7 @@ public final class Meters {
         return all;
     }
 
-    public int size() { // refused: alarm: the size of a concurrent map counts as several steps
+    public int size() { // refused: fault: the size of a concurrent map is a sum of counters that change meanwhile
         return meters.size();
     }
 }

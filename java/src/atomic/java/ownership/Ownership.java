@@ -126,6 +126,31 @@ public final class Ownership {
         return each != null && program.find(attribution.element(each)) == wanted;
     }
 
+    /** Whether all that a field holds is given by calls on objects of classes at hand, such as their own iterators. */
+    public boolean isGivenHere(VariableElement field) {
+        List<Uses.Assignment> all = field.getModifiers().contains(Modifier.PRIVATE) ? uses.assignments(field) : List.of();
+        return field.getKind() == ElementKind.FIELD && !all.isEmpty() && all.stream().allMatch(each ->
+            each.value() != null && Uses.bare(each.value()) instanceof MethodInvocationTree call
+            && call.getMethodSelect() instanceof MemberSelectTree select && isAtHand(select.getExpression()));
+    }
+
+    /** Whether an expression's class is at hand, or that of each argument which a private class's parameter is given. */
+    private boolean isAtHand(ExpressionTree tree) {
+        Element symbol = attribution.element(Uses.bare(tree));
+        if (program.find(attribution.type(tree)) != null) {
+            return true;
+        } else if (symbol == null || symbol.getKind() != ElementKind.PARAMETER) {
+            return false;
+        }
+        JavaMethod method = program.method(symbol.getEnclosingElement());
+        int at = method == null ? -1 : method.symbol().getParameters().indexOf(symbol);
+        boolean hidden = at >= 0 && method.isConstructor() && !sites.isReferenced(method.symbol())
+            && method.owner().symbol().getModifiers().contains(Modifier.PRIVATE);
+        List<Tree> all = hidden ? sites.of(method.symbol()) : List.of();
+        return !all.isEmpty() && all.stream().allMatch(each -> each instanceof NewClassTree made
+            && at < made.getArguments().size() && program.find(attribution.type(made.getArguments().get(at))) != null);
+    }
+
     /** Whether a method only looks at the array in its parameter. */
     public boolean onlyLooks(VariableElement parameter) {
         return looks.only(parameter);

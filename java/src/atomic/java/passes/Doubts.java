@@ -9,15 +9,18 @@ import java.util.Collection;
  * Takes out of a skeleton what may be no step: what is refused in what is left is refused whatever the approximated
  * parts do. A call of code that others bring stays only where no lock can be held, since nothing keeps others away
  * then. An access of a field that may have a guard goes where the lock may be held under another name: that of an
- * object without a name, of a node that may be new, and in a method that is only called where some lock is held.
+ * object without a name, of a node that may be new, one of a field that leads to the same object (see {@link OtherNames}),
+ * and in a method that is only called where some lock is held.
  */
 public final class Doubts {
     private final Collection<Method> methods;
     private final UnderLock underLock;
+    private final OtherNames names;
 
     public Doubts(Collection<Method> methods) {
         this.methods = methods;
         underLock = new UnderLock(methods);
+        names = new OtherNames(methods);
     }
 
     /** Takes it out. */
@@ -33,7 +36,7 @@ public final class Doubts {
         if (part instanceof Part.Call call) {
             return isDoubtful(call.target().doubt(), held) ? Part.NOTHING : call;
         } else if (part instanceof Part.Access access) {
-            return isCertain(access, dark) ? access : Part.NOTHING;
+            return isCertain(access, dark) && !names.mayBeHeld(access) ? access : Part.NOTHING;
         }
         boolean region = part instanceof Part.Region;
         return part.map(each -> without(each, held || region, dark && !region));

@@ -21,6 +21,7 @@ public final class Field {
     private boolean ofNodes;
     private boolean contents;
     private boolean lock;
+    private boolean made;
     private Field one;
 
     /** A field of {@code owner}; without a type it holds a number; {@code fixed} says that it is final. */
@@ -112,6 +113,15 @@ public final class Field {
 
     public void standForLock() {
         lock = true;
+    }
+
+    /** Whether all that it ever holds was made for it. */
+    public boolean isMade() {
+        return made;
+    }
+
+    public void holdsOwn() {
+        made = true;
     }
 
     /** Whether it stands for a field of a container's nodes, of which one may be new where it is touched. */

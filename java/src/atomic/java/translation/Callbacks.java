@@ -60,7 +60,7 @@ final class Callbacks {
             JavaClass known = type == null ? null : services.program().find(type);
             TypeElement wanted = known == null ? null : parameter(symbol, k);
             if (wanted != null && services.program().find(wanted) == null) {
-                emit(known, wanted, called);
+                emit(known, wanted, written(called.arguments().get(k)), called);
             }
         }
     }
@@ -77,11 +77,11 @@ final class Callbacks {
         }
     }
 
-    /** A class at hand may be the one whose method is called, where its object may be any of the called type. */
+    /** A class at hand may be the one whose method is called, where its object may be any of the called type: that isn't sure. */
     private void inPlace(LibraryCalls.Called called, ExecutableElement symbol) {
         boolean known = called.object() instanceof Value.Owned || called.object() instanceof Value.Fresh;
         Choice.Kind kind = called.choice().kind();
-        if (known || symbol.getModifiers().contains(Modifier.STATIC) || kind == Choice.Kind.READS
+        if (known || services.program().sure() || symbol.getModifiers().contains(Modifier.STATIC) || kind == Choice.Kind.READS
                 || kind == Choice.Kind.WRITES || kind == Choice.Kind.COMPOUND || kind == Choice.Kind.ASSUMED
                 || called.choice().elsewhere()
                 || !(called.at() instanceof MethodInvocationTree call)
@@ -118,7 +118,8 @@ final class Callbacks {
         if (known != null && (plain || services.program().find(symbol.getEnclosingElement()) != null)) {
             new Comparisons(services, body).parts(known, symbol.getSimpleName().toString(), called.at());
         } else if (known != null) {
-            emit(known, (TypeElement) symbol.getEnclosingElement(), called);
+            emit(known, (TypeElement) symbol.getEnclosingElement(), call.getMethodSelect() instanceof MemberSelectTree select
+                ? select.getExpression() : null, called);
         }
     }
 
@@ -135,13 +136,17 @@ final class Callbacks {
             ? (TypeElement) declared.asElement() : null;
     }
 
-    private void emit(JavaClass known, TypeElement wanted, LibraryCalls.Called called) {
+    /** Calls on an object, which is this one where none is written. */
+    private void emit(JavaClass known, TypeElement wanted, ExpressionTree object, LibraryCalls.Called called) {
+        boolean own = object == null || object.toString().equals("this");
+        Value me = own ? body.me(services.attribution().start(called.at())) : null;
         List<Part> calls = new ArrayList<>();
         for (JavaClass each : services.program().classes()) {
             boolean kin = services.families().isBelow(each, known) || services.families().isBelow(known, each);
             for (JavaMethod method : kin ? each.methods() : List.<JavaMethod>of()) {
                 if (method.isVirtual() && !method.isAbstract() && replaces(method, wanted)) {
-                    calls.add(new Part.Call(new Value.Opaque(each.shape()), services.methods().of(method),
+                    boolean fits = me instanceof Value.Named && me.type().fits(each.shape());
+                    calls.add(new Part.Call(fits ? me : new Value.Opaque(each.shape()), services.methods().of(method),
                         List.of(new Value.Named(body.statics())), services.attribution().name(called.at())));
                 }
             }

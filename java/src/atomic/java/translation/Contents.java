@@ -10,6 +10,7 @@ import com.sun.source.tree.ExpressionTree;
 import com.sun.source.tree.MemberSelectTree;
 import com.sun.source.tree.MethodInvocationTree;
 import com.sun.source.tree.Tree;
+import javax.lang.model.element.VariableElement;
 import javax.lang.model.type.TypeKind;
 
 /** Accesses of the contents of arrays, collections and other objects that aren't safe by themselves. */
@@ -50,9 +51,12 @@ final class Contents {
         }
     }
 
-    /** An object that came from outside is anybody's; this one's own part in a library is only not known. */
+    /** An object that came from outside is anybody's; this one's own part in a library, or what is made here, isn't known. */
     private Method.Doubt doubt(Value object, Tree at) {
-        boolean own = object.path() != null && object.path().isThis();
+        boolean own = object.path() != null && object.path().isThis() || at instanceof MethodInvocationTree called
+            && called.getMethodSelect() instanceof MemberSelectTree select
+            && services.attribution().element(select.getExpression()) instanceof VariableElement field
+            && services.ownership().isGivenHere(field);
         boolean array = at instanceof MethodInvocationTree call && (call.getArguments().stream().anyMatch(this::isArray)
             || call.getMethodSelect() instanceof MemberSelectTree select && isArray(select.getExpression()));
         return own || array ? Method.Doubt.ANY : Method.Doubt.OPEN;

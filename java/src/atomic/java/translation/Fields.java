@@ -140,6 +140,9 @@ public final class Fields {
         if (isLock(java.asType())) {
             field.standForLock();
         }
+        if (wish.fixed() && ownership.made(java) != null) {
+            field.holdsOwn();
+        }
         boolean isVolatile = java.getModifiers().contains(Modifier.VOLATILE);
         if (isVolatile && !contents) {
             field.order();

@@ -6,6 +6,7 @@ import atomic.java.program.JavaMethod;
 import atomic.java.skeleton.Part;
 import atomic.java.skeleton.Path;
 import atomic.java.skeleton.Value;
+import com.sun.source.tree.BlockTree;
 import com.sun.source.tree.ExpressionStatementTree;
 import com.sun.source.tree.ExpressionTree;
 import com.sun.source.tree.IdentifierTree;
@@ -100,6 +101,11 @@ final class Locking {
             return select.getExpression();
         }
         return null;
+    }
+
+    /** Whether code begins by giving back a lock that who calls it took: what that does meanwhile is his to know. */
+    boolean givesBack(BlockTree block) {
+        return !block.getStatements().isEmpty() && operand(block.getStatements().get(0), "unlock") != null;
     }
 
     /** The locks that a statement takes, or gives back: itself, or by a method of its own object that does nothing else. */

@@ -232,7 +232,8 @@ public final class Methods {
         if (method.tree().getBody() == null) {
             target.body(new Dispatch(services).body(method, key.self(), body));
             return;
-        } else if (key.self() == method.owner() && families.isAlwaysReplaced(method)) {
+        } else if (key.self() == method.owner() && families.isAlwaysReplaced(method)
+                || services.program().sure() && new Locking(services, body).givesBack(method.tree().getBody())) {
             return;
         }
         Statements statements = new Statements(services, body);
