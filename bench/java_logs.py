@@ -52,8 +52,8 @@ def events_of(path: Path) -> list[Event]:
 
 @dataclass(frozen=True)
 class Sharing:
-    """Which objects several threads touch: for each the line in which the second one comes, and the last line before
-    that in which the first one touches it; and the places that are written from then on."""
+    """Which objects several threads touch: for each the line in which the second one comes, and the last line in front
+    of that in which the first one touches it; and the places that are written from then on."""
 
     since: dict[str, int]
     alone: dict[str, tuple[str, int]]
@@ -68,7 +68,7 @@ class Sharing:
         return self.is_alone(event, event.line)
 
     def is_seen(self, event: Event) -> bool:
-        """Whether other threads may see this access: what nobody writes any more when they come gives the same."""
+        """Whether other threads may see this access: what nobody writes when they come always gives the same."""
         return not self.is_early(event) and event.target in self.written
 
 

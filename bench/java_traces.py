@@ -24,6 +24,7 @@ from java_sources import PROGRAM, TOP, run
 TESTS = TOP / "java" / "tests"
 OPTIONS = re.compile(r"^// judged with: (.*)$", re.MULTILINE)
 NAME = re.compile(r"^package ([\w.]+);", re.MULTILINE)
+LONGEST = 300
 FAST = ["-XX:TieredStopAtLevel=1", "-XX:+UseSerialGC"]
 
 
@@ -133,9 +134,12 @@ def trace(source: Judged, folder: Path, archive: Path, runs: int, counts: Counts
         str(runs),
         str(target),
     ]
-    done = subprocess.run(command, capture_output=True, check=False)
-    if done.returncode:
-        counts.wrong.append(f"{source.path.name}: status {done.returncode}: {done.stderr.decode()[:300]}")
+    try:
+        done = subprocess.run(command, capture_output=True, check=False, timeout=LONGEST + runs)
+        if done.returncode:
+            counts.wrong.append(f"{source.path.name}: status {done.returncode}: {done.stderr.decode()[:300]}")
+    except subprocess.TimeoutExpired:
+        counts.wrong.append(f"{source.path.name}: the runs didn't end, so some call waits that isn't logged")
     for log in sorted(target.glob("*.log")):
         text = look(source, log, counts)
         if logs:

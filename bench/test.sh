@@ -92,7 +92,7 @@ run_java() {
     needs python3 python3 javac openjdk-17-jdk-headless || return 1
     bench/java.sh && python3 bench/test_java.py && python3 bench/java_random.py --count 40 --batch 20 \
         && python3 bench/java_traces.py --runs 4 java/tests/larger/RingBuffer.java java/tests/larger/TicketOffice.java \
-            java/tests/users/Bank.java
+            java/tests/users/Bank.java java/tests/users/RecentCache.java java/tests/users/Branch.java
 }
 
 asks=''

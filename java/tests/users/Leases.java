@@ -8,7 +8,6 @@ import java.util.HashSet;
 import java.util.List;
 import java.util.Set;
 import java.util.concurrent.Semaphore;
-import java.util.concurrent.TimeUnit;
 import java.util.concurrent.TimeoutException;
 import java.util.concurrent.atomic.AtomicInteger;
 import java.util.concurrent.locks.Lock;
@@ -71,8 +70,8 @@ public class Leases<T> implements Closeable {
         this.make = make;
     }
 
-    public Lease take(long time, TimeUnit unit) throws InterruptedException, TimeoutException { // refused: fault: a permit first, and then a region
-        if (!permits.tryAcquire(time, unit)) {
+    public Lease take() throws TimeoutException { // refused: fault: a permit first, and then a region
+        if (!permits.tryAcquire()) {
             throw new TimeoutException();
         }
         boolean given = false;
@@ -154,8 +153,8 @@ public class Leases<T> implements Closeable {
         return made.get();
     }
 
-    public void use(Consumer<? super T> user) throws InterruptedException, TimeoutException { // refused: fault: it takes one, runs the caller's function, and gives it back
-        try (var lease = take(1, TimeUnit.SECONDS)) {
+    public void use(Consumer<? super T> user) throws TimeoutException { // refused: fault: it takes one, runs the caller's function, and gives it back
+        try (var lease = take()) {
             user.accept(lease.get());
         }
     }

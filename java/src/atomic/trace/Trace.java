@@ -6,6 +6,7 @@ import java.util.concurrent.locks.Condition;
 import java.util.concurrent.locks.Lock;
 import java.util.concurrent.locks.ReadWriteLock;
 import java.util.concurrent.locks.ReentrantReadWriteLock;
+import java.util.concurrent.locks.StampedLock;
 
 /**
  * What a logged copy of a source calls at each step. A field is read as {@code Trace.read(Trace.at(..), Trace.on(object).field)} and
@@ -167,6 +168,16 @@ public final class Trace {
     }
 
     public static void unlock(String place, Lock lock) {
+        scheduler.give(place, lock);
+    }
+
+    /** Takes a lock that gives a stamp; readers take it alone too. */
+    public static long takeStamped(String place, StampedLock lock) {
+        scheduler.take(place, lock);
+        return 1;
+    }
+
+    public static void giveStamped(String place, StampedLock lock, long stamp) {
         scheduler.give(place, lock);
     }
 

@@ -50,11 +50,23 @@ final class LoggedCalls {
             return TRACE + name + "(" + copy.at(call) + ", " + receiver(call) + ")";
         } else if (is(called, "java.util.concurrent.locks.Lock") && LOCK_CALLS.contains(name)) {
             return TRACE + name + "(" + copy.at(call) + ", " + withArguments(receiver(call), call) + ")";
+        } else if (is(called, "java.util.concurrent.locks.StampedLock")) {
+            return stamped(call, name);
         } else if (name.equals("newCondition") || is(called, "java.util.concurrent.locks.ReadWriteLock")
                 && (name.equals("readLock") || name.equals("writeLock"))) {
             return TRACE + name + "(" + receiver(call) + ")";
         }
         return ofLibrary(call, called, name);
+    }
+
+    /** A lock that gives a stamp. A look that takes no lock finds it taken each time, so that it is looked at with the lock. */
+    private String stamped(MethodInvocationTree call, String name) {
+        if (name.matches("(read|write)Lock(Interruptibly)?")) {
+            return TRACE + "takeStamped(" + copy.at(call) + ", " + receiver(call) + ")";
+        } else if (name.matches("unlock(Read|Write)?")) {
+            return TRACE + "giveStamped(" + copy.at(call) + ", " + withArguments(receiver(call), call) + ")";
+        }
+        return name.equals("tryOptimisticRead") ? "0L" : copy.plain(call);
     }
 
     private boolean is(Element called, String type) {
