@@ -78,7 +78,8 @@ run_house() {
 
 run_documents() {
     needs python3 python3 git git make make bash bash parallel parallel vim vim || return 1
-    python3 bench/check_docs.py "$ATOMIC"
+    needs javac openjdk-17-jdk-headless || return 1
+    bench/java.sh && python3 bench/check_docs.py "$ATOMIC"
 }
 
 run_jvm() {
