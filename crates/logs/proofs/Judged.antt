@@ -5,8 +5,8 @@ use Rattle.std.proofs.lemmas.Bool.{eqb-true, eq-eqb}
 use Rattle.state.specs.declared.value.StepKind.{StepKind}
 use Rattle.semantics.specs.Units.{Entry, is_commit}
 use Rattle.semantics.specs.Words.{fits_phase, FitPhases}
-use Rattle.open_order.specs.Gathering.{open_from, IsGatheredOrder, AreUnitsTogether}
-use Rattle.open_order.proofs.Gathered.{gathered, units_gathered}
+use Rattle.reduction.specs.Gathering.{open_from, IsGatheredOrder, AreUnitsTogether}
+use Rattle.reduction.proofs.Gathered.{gathered, units_gathered}
 use Rattle.reduction.specs.Serial.{IsSerialOrder}
 use Rattle.reduction.specs.Systems.{Steps, run_then, system_run_from, system_entry_then, system_entries_from, written_from}
 use Rattle.reduction.proofs.Phases.{phases_words}

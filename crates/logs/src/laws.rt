@@ -1,7 +1,7 @@
 //! Laws of logs.
 
 ghost use Rattle.std.specs.Prelude.{◌≡◌, ℕ, List, [], Some, None, slice_get};
-ghost use Rattle.open_order.specs.Gathering.{open_from, IsGatheredOrder, AreUnitsTogether};
+ghost use Rattle.reduction.specs.Gathering.{open_from, IsGatheredOrder, AreUnitsTogether};
 ghost use Rattle.reduction.specs.Movers.{HasMovers};
 ghost use Rattle.reduction.specs.Serial.{NobodyInside, IsSerialOrder};
 ghost use Rattle.reduction.specs.Systems.{system_run_from, system_entries_from, written_from};

@@ -43,3 +43,12 @@ pub mod Moving
 -- Public lemmas, for the crates above: the machine as a system with movers (MachineSystem), the written order of a schedule (WrittenOrder).
 pub mod MachineSystem
 pub mod WrittenOrder
+-- Public lemmas, for the crates above: units in the open order (KeptUnits, ThreadOrder, LastUnits, OpenMoves), and its theorem
+-- (Gathered).
+pub mod KeptUnits
+pub mod ThreadOrder
+pub mod LastUnits
+pub mod OpenMoves
+mod Together
+mod UnitNeighbours
+pub mod Gathered

@@ -22,3 +22,6 @@ pub mod Neighbours
 -- SerialSchedules is for a reader of the laws; MachineSystem serves the proofs.
 pub mod SerialSchedules
 pub mod MachineSystem
+-- The open order, for a reader of the laws: the units of a run in it (Committing), and what it is to a schedule of any system (Gathering).
+pub mod Committing
+pub mod Gathering

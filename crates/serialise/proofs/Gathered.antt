@@ -12,9 +12,9 @@ use Rattle.reduction.specs.Systems as of
 use Rattle.reduction.specs.MachineSystem.{machine}
 use Rattle.reduction.proofs.MachineSystem.{machine_moves, run_same, entries_same, owns_same}
 use Rattle.reduction.proofs.WrittenOrder.{nobody_inside, written}
-use Rattle.open_order.specs.Committing.{open_units}
-use Rattle.open_order.specs.Gathering.{open_from, AreBlocksWhole, IsGatheredOrder, AreUnitsTogether}
-use Rattle.open_order.proofs.Gathered as any
+use Rattle.reduction.specs.Committing.{open_units}
+use Rattle.reduction.specs.Gathering.{open_from, AreBlocksWhole, IsGatheredOrder, AreUnitsTogether}
+use Rattle.reduction.proofs.Gathered as any
 use Rattle.serialise.specs.Whole.{IsWhole, IsGathered, AreUnitsWhole}
 use Rattle.serialise.specs.OpenOrder.{open_order}
 

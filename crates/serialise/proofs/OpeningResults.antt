@@ -19,7 +19,7 @@ use Rattle.serialise.specs.declared.run_end.RunEnd.{RunEnd}
 use Rattle.serialise.specs.declared.run_end.RunEnd.TheVariants as ends
 use Rattle.serialise.specs.NoRun.{IsNoRun}
 use Rattle.serialise.specs.Opened.{IsOpened, IsOpening}
-use Rattle.open_order.specs.Committing.{open_units}
+use Rattle.reduction.specs.Committing.{open_units}
 use Rattle.serialise.specs.OpenOrder.{open_order}
 use Rattle.serialise.specs.Whole.{IsGathered}
 use Rattle.serialise.proofs.Gathered.{gathered, closed_order}

@@ -12,12 +12,12 @@ use Rattle.serialise.specs.UnitMaps.{UnitMaps, unit_maps, spread}
 use Rattle.serialise.specs.declared.step.Step.{Step}
 use Rattle.serialise.proofs.Found.{size_at, CommitsApart, size_none, units_apart, maps_found}
 use Rattle.serialise.proofs.Spread.{Strict, strict_in_order, size_in_order, IsAt, IsStep, are_steps, units_at, at_later, threads_of, thread_in, spread_same, spread_is, rises, strictly}
-use Rattle.open_order.specs.Committing.{commits, is_uncommitted, unit_thread, placed_by_thread, by_thread, open_units}
+use Rattle.reduction.specs.Committing.{commits, is_uncommitted, unit_thread, placed_by_thread, by_thread, open_units}
 use Rattle.serialise.specs.Spreading.{spread_committed, with_left, left_sizes, spread_threads}
-use Rattle.open_order.proofs.Parts.{kept_by, each_kept}
-use Rattle.open_order.proofs.Turns.{AreApart}
-use Rattle.open_order.proofs.Lasts.{alone_left, alone_apart, last_units}
-use Rattle.open_order.proofs.Moves.{each_put, each_by_thread}
+use Rattle.reduction.proofs.KeptUnits.{kept_by, each_kept}
+use Rattle.reduction.proofs.ThreadOrder.{AreApart}
+use Rattle.reduction.proofs.LastUnits.{alone_left, alone_apart, last_units}
+use Rattle.reduction.proofs.OpenMoves.{each_put, each_by_thread}
 use Rattle.serialise.proofs.ToldUnits.{opens_in, opens_here, opens_later, Tells, are_told, IsTold, told_units}
 
 -- Sizes of those that commit, and of the others.

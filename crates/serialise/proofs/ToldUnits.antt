@@ -7,7 +7,7 @@ use Rattle.semantics.specs.Units.{Entry, is_whole, is_commit, commit_place}
 use Rattle.reduction.proofs.Shape.{Each, each_more, IsFine}
 use Rattle.serialise.specs.Entries.{entries_of}
 use Rattle.serialise.specs.declared.step.Step.{Step}
-use Rattle.open_order.specs.Committing.{commits}
+use Rattle.reduction.specs.Committing.{commits}
 use Rattle.serialise.specs.Spreading.{stays_open}
 
 -- whether the step at a place stays open; the first step has place n

@@ -2,7 +2,7 @@
 use Rattle.std.specs.Prelude.{ℕ, List}
 use Rattle.core_program.specs.Core.{Program}
 use Rattle.semantics.specs.Units.{entries, units, schedule_of}
-use Rattle.open_order.specs.Committing.{open_units}
+use Rattle.reduction.specs.Committing.{open_units}
 
 -- the open order of a schedule: its units that commit in ascending order of their commit places, then the others in ascending order of
 -- their threads

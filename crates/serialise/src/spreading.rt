@@ -4,7 +4,7 @@ ghost use Rattle.semantics.specs.Units.{units, schedule_of};
 ghost use Rattle.serialise.specs.Entries.{entries_of};
 ghost use Rattle.serialise.specs.Tables.{value_or};
 ghost use Rattle.serialise.specs.UnitMaps.{maps_of};
-ghost use Rattle.open_order.specs.Committing.{open_units};
+ghost use Rattle.reduction.specs.Committing.{open_units};
 ghost use Rattle.serialise.specs.Spreading.{stays_open, committed_size, left_size, spread_committed, with_left, left_sizes, spread_threads};
 
 use crate::repeats::append;

@@ -2,7 +2,7 @@
 ghost use Rattle.std.specs.Prelude.{◌≡◌, ◌+◌, true, false, [], ◌∷◌, map};
 ghost use Rattle.state.specs.declared.value.StepKind.TheVariants.{Both, Right, Left, Other};
 ghost use Rattle.semantics.specs.Units.{units, schedule_of};
-ghost use Rattle.open_order.specs.Committing.{commits, is_uncommitted, unit_thread, placed_by_thread, by_thread, open_units};
+ghost use Rattle.reduction.specs.Committing.{commits, is_uncommitted, unit_thread, placed_by_thread, by_thread, open_units};
 ghost use Rattle.serialise.specs.Spreading.{stays_open, committed_size, left_size, spread_committed, with_left, left_sizes, spread_threads};
 ghost use Rattle.core_examples.specs.Entries.{entry_at};
 

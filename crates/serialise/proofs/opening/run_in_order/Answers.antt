@@ -3,7 +3,7 @@ use Rattle.std.proofs.lemmas.Result.{err_from_is_err_and}
 use Rattle.core_program.specs.Views.{program_of}
 use Rattle.semantics.specs.Units.{units, schedule_of}
 use Rattle.serialise.specs.Entries.{entries_of}
-use Rattle.open_order.specs.Committing.{open_units}
+use Rattle.reduction.specs.Committing.{open_units}
 use Rattle.serialise.proofs.OpeningResults.{finished}
 use Rattle.serialise.proofs.opening.run_in_order.Goals as goal
 

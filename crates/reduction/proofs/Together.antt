@@ -7,8 +7,8 @@ use Rattle.reduction.specs.Runs.{FitsEntry, Run}
 use Rattle.reduction.specs.Systems.{System, run_then, system_run_from}
 use Rattle.reduction.proofs.Whole.{run_entries}
 use Rattle.reduction.proofs.Shape.{Each, flat, has, IsOf, IsFine}
-use Rattle.open_order.specs.Gathering.{AreBlocksWhole}
-use Rattle.open_order.proofs.Lasts.{AreLast, none_first}
+use Rattle.reduction.specs.Gathering.{AreBlocksWhole}
+use Rattle.reduction.proofs.LastUnits.{AreLast, none_first}
 
 -- the threads of entries, with whether they stand inside after them
 abbrev pub marks : List Entry → List (ℕ × Bool)

@@ -1,5 +1,5 @@
-use Rattle.open_order.proofs.Gathered.{gathered, units_gathered, closed_order}
-use Rattle.open_order.proofs.gathering_laws.open_order_gathers.Goals as goal
+use Rattle.reduction.proofs.Gathered.{gathered, units_gathered, closed_order}
+use Rattle.reduction.proofs.open_order_laws.open_order_gathers.Goals as goal
 
 pub returns-clause-gathers : goal.returns-clause-gathers
 returns-clause-gathers c at M sound start end laws first s ran words = gathered laws s start end first ran words

@@ -12,10 +12,10 @@ use Rattle.reduction.specs.Systems.{System}
 use Rattle.reduction.proofs.Shape.{Each, each_both, flat, has, IsOf, IsFine}
 use Rattle.reduction.proofs.Slides.{Passes, Becomes, becomes_behind, becomes_itself, becomes_then, slide_all}
 use Rattle.reduction.proofs.Sorting.{NotBare, quiet_right, others}
-use Rattle.open_order.specs.Committing.{commits, is_uncommitted, unit_thread, placed_by_thread, by_thread}
-use Rattle.open_order.proofs.Parts.{each_kept}
-use Rattle.open_order.proofs.Turns.{put_by}
-use Rattle.open_order.proofs.Lasts.{NoneOf, AreLast, AreAlone, parted, parted_kept, parted_left, left_open, none_first, none_behind, none_kept, none_by_thread}
+use Rattle.reduction.specs.Committing.{commits, is_uncommitted, unit_thread, placed_by_thread, by_thread}
+use Rattle.reduction.proofs.KeptUnits.{each_kept}
+use Rattle.reduction.proofs.ThreadOrder.{put_by}
+use Rattle.reduction.proofs.LastUnits.{NoneOf, AreLast, AreAlone, parted, parted_kept, parted_left, left_open, none_first, none_behind, none_kept, none_by_thread}
 
 pub flat_both : (us vs : List (List Entry)) → flat (us ++ vs) ≡ flat us ++ flat vs
 flat_both [] vs = refl

@@ -6,7 +6,7 @@ ghost use Rattle.semantics.specs.Words.{IsReducible};
 ghost use Rattle.reduction.specs.Movers.{HasMovers};
 ghost use Rattle.reduction.specs.Serial.{NobodyInside};
 ghost use Rattle.reduction.specs.Systems.{System, system_run_from, system_entries_from, written_from};
-ghost use Rattle.open_order.specs.Gathering.{open_from, IsGatheredOrder, AreUnitsTogether};
+ghost use Rattle.reduction.specs.Gathering.{open_from, IsGatheredOrder, AreUnitsTogether};
 
 /// Where the kinds of a system's steps mean what they say in its sound states, and a schedule runs from a sound state, and the
 /// kinds of each of its units are a reducible word, its open order is a rearrangement that runs to the same state, keeps each

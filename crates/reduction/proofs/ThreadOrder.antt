@@ -4,7 +4,7 @@ use Rattle.std.specs.Prelude.{nat_le, cond}
 use Rattle.std.proofs.lemmas.Bool.{leb-true, leb-false, lt-leb}
 use Rattle.semantics.specs.Units.{Entry, commit_place, placed, in_order}
 use Rattle.reduction.proofs.Shape.{Each, each_in_order}
-use Rattle.open_order.specs.Committing.{unit_thread, placed_by_thread, by_thread}
+use Rattle.reduction.specs.Committing.{unit_thread, placed_by_thread, by_thread}
 
 -- an insertion, by its test
 pub put_by : (u v : List Entry) (us : List (List Entry)) (b : Bool) → nat_le (unit_thread u) (unit_thread v) ≡ b → placed_by_thread u (v ∷ us) ≡ cond b (u ∷ v ∷ us) (v ∷ placed_by_thread u us)

@@ -8,9 +8,9 @@ use Rattle.reduction.proofs.Shape.{Each, each_more, has, IsOf, IsFine}
 use Rattle.reduction.proofs.Ordering.{has_by}
 use Rattle.reduction.proofs.Sorting.{fine_units, each_units}
 use Rattle.reduction.proofs.Whole.{entries_rise}
-use Rattle.open_order.specs.Gathering.{AreUnitsTogether}
-use Rattle.open_order.proofs.Lasts.{none_first, none_added}
-use Rattle.open_order.proofs.Together.{marks, some_of, first_of, AreTogether}
+use Rattle.reduction.specs.Gathering.{AreUnitsTogether}
+use Rattle.reduction.proofs.LastUnits.{none_first, none_added}
+use Rattle.reduction.proofs.Together.{marks, some_of, first_of, AreTogether}
 
 -- each entry has the place behind the one before it; the first has this place
 abbrev pub Counts : ℕ → List Entry → Type 0

@@ -14,14 +14,14 @@ use Rattle.reduction.proofs.Shape.{Each, each_both, flat, IsFine, each_in_order}
 use Rattle.reduction.proofs.Slides.{Becomes, becomes_then, becomes_behind}
 use Rattle.reduction.proofs.Sorting.{Rises, NotBare, HasWord, fine_units, each_units, sorted}
 use Rattle.reduction.proofs.Whole.{Whole, count_owns, entries_all, entries_rise, entries_run, run_entries, schedule_is, whole_units, each_from, none_bare}
-use Rattle.open_order.specs.Committing.{commits, is_uncommitted, by_thread, open_units}
-use Rattle.open_order.specs.Gathering.{open_from, AreBlocksWhole, IsGatheredOrder, AreUnitsTogether}
-use Rattle.open_order.proofs.Parts.{kept_by, each_kept, filter_in_order}
-use Rattle.open_order.proofs.Turns.{by_thread_in_order}
-use Rattle.open_order.proofs.Lasts.{alone_left, alone_apart, last_units, last_ordered, last_opened}
-use Rattle.open_order.proofs.Moves.{flat_both, part, put_all, each_by_thread}
-use Rattle.open_order.proofs.Together.{marks, AreTogether, flat_together, whole}
-use Rattle.open_order.proofs.Neighbours.{units_together}
+use Rattle.reduction.specs.Committing.{commits, is_uncommitted, by_thread, open_units}
+use Rattle.reduction.specs.Gathering.{open_from, AreBlocksWhole, IsGatheredOrder, AreUnitsTogether}
+use Rattle.reduction.proofs.KeptUnits.{kept_by, each_kept, filter_in_order}
+use Rattle.reduction.proofs.ThreadOrder.{by_thread_in_order}
+use Rattle.reduction.proofs.LastUnits.{alone_left, alone_apart, last_units, last_ordered, last_opened}
+use Rattle.reduction.proofs.OpenMoves.{flat_both, part, put_all, each_by_thread}
+use Rattle.reduction.proofs.Together.{marks, AreTogether, flat_together, whole}
+use Rattle.reduction.proofs.UnitNeighbours.{units_together}
 
 -- the units that don't commit are those
 left_ones : (us : List (List Entry)) → Each (λ u. commits u ≡ false) (filter is_uncommitted us)

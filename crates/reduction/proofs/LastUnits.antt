@@ -7,9 +7,9 @@ use Rattle.semantics.specs.Units.{Entry, is_of_thread, added, units, is_whole, i
 use Rattle.reduction.proofs.Shape.{Each, has, IsFine, IsLater, InTurn, each_in_order}
 use Rattle.reduction.proofs.Ordering.{has_by}
 use Rattle.reduction.proofs.Sorting.{Rises, fine_units, turn_units}
-use Rattle.open_order.specs.Committing.{commits, is_uncommitted, unit_thread, placed_by_thread, by_thread}
-use Rattle.open_order.proofs.Parts.{kept_by}
-use Rattle.open_order.proofs.Turns.{AreApart}
+use Rattle.reduction.specs.Committing.{commits, is_uncommitted, unit_thread, placed_by_thread, by_thread}
+use Rattle.reduction.proofs.KeptUnits.{kept_by}
+use Rattle.reduction.proofs.ThreadOrder.{AreApart}
 
 -- among these units none is of a thread of this one
 abbrev pub NoneOf : List Entry → List (List Entry) → Type 0

@@ -3,7 +3,7 @@ use Rattle.std.specs.Prelude.{◌≡◌, ℕ, ◌+◌, ◌<◌, ◌≤◌, true,
 use Rattle.semantics.specs.Run.{IsRearrangement}
 use Rattle.semantics.specs.Units.{Entry, units, schedule_of}
 use Rattle.reduction.specs.Systems.{System, system_run_from, system_entries_from, owns_from}
-use Rattle.open_order.specs.Committing.{open_units}
+use Rattle.reduction.specs.Committing.{open_units}
 
 -- the open order of a schedule from a state
 abbrev pub open_from : {S O : Type 0} → System S O → S → List ℕ → List ℕ
