@@ -3,9 +3,9 @@
 
 Told are: a crate without a folder, a row or a heading, or at another place than in the tables; a crate that uses one
 that stands below it; a use in crates.txt that no file of the crate cites (src/, specs/ and proofs/, comments left
-out); a row whose uses aren't those of crates.txt; a name in README.md or docs/ that is no crate's, and a file of a
-crate that is named there and isn't there. The exit status is 0 where there is none. The last line has the longest chain
-of crates.
+out), and a crate that is cited there and isn't in crates.txt; a row whose uses aren't those of crates.txt; a name in
+README.md or docs/ that is no crate's, and a file of a crate that is named there and isn't there. The exit status is 0
+where there is none. The last line has the longest chain of crates.
 
 --write makes the tables and crates.txt agree first. The tables say in which order and under which heading crates
 stand, what each does and what is used of it; crates.txt says what each uses. A row whose crate crates.txt doesn't
@@ -108,14 +108,13 @@ def root(name: str) -> str:
     return ""
 
 
-def code_of(name: str) -> set[str]:
-    """The words of a crate's files, comments left out."""
-    words: set[str] = set()
+def code_of(name: str) -> str:
+    """The text of a crate's files, comments left out."""
+    texts: list[str] = []
     for file in files(name):
         with open(file, encoding="utf-8") as text:
-            bare = re.sub(r"--.*" if file.endswith(".antt") else r"//.*", "", text.read())
-        words |= set(re.findall(r"\w+", bare))
-    return words
+            texts.append(re.sub(r"--.*" if file.endswith(".antt") else r"//.*", "", text.read()))
+    return "\n".join(texts)
 
 
 def places(parts: Parts) -> tuple[dict[str, int], dict[str, Table]]:
@@ -211,10 +210,16 @@ def differences_of_crates(crates: Crates, order: dict[str, int], table_of: dict[
         above = [use for use in uses if order.get(use, -1) > order[name]]
         if above:
             yield f"{name}: uses what stands below it: {' '.join(above)}"
-        cited = code_of(name)
-        unused = [use for use in uses if use not in cited]
+        code = code_of(name)
+        words = set(re.findall(r"\w+", code))
+        unused = [use for use in uses if use not in words]
         if unused:
             yield f"{name}: crates.txt lists what its files never cite: {' '.join(unused)}"
+        cited = {use for pair in re.findall(r"\bRattle\.(\w+)\.|\buse (\w+)::", code) for use in pair}
+        own = {name, *re.findall(r"\bmod (\w+);", code)}
+        missing = sorted((cited & set(crates)) - own - set(uses))
+        if missing:
+            yield f"{name}: its files cite what crates.txt doesn't list: {' '.join(missing)}"
 
 
 def main() -> None:

@@ -18,14 +18,6 @@ more_in (Some file) at n chunk gives read = let within = gives.within in grind (
 pub more_read : (told now : Option (List ℕ)) (at n : ℕ) (chunk : List ℕ) → now ≡ told → IfSome now (GivesFrom at n chunk) → IfSome told (λ file. at ≤ length file) → IfSome told (λ file. at + n ≤ length file)
 more_read told now at n chunk same gives read = more_in told at n chunk (given told now at n chunk same gives) read
 
-all_in : (told : Option (List ℕ)) (at n : ℕ) (chunk : List ℕ) → IfSome told (GivesFrom at n chunk) → n ≡ 0 → 0 < length chunk → IfSome told (λ file. at ≤ length file) → IfSome told (λ file. length file ≡ at)
-all_in None at n chunk gives none some read = tt
-all_in (Some file) at n chunk gives none some read = let past : length file ≤ at = gives.end none some in omega (arith, past, read)
-
-pub all_read : (told now : Option (List ℕ)) (at n : ℕ) (chunk : List ℕ) → now ≡ told → IfSome now (GivesFrom at n chunk) → n ≡ 0 → 0 < length chunk → IfSome told (λ file. at ≤ length file)
-    → IfSome told (λ file. length file ≡ at)
-all_read told now at n chunk same gives none some read = all_in told at n chunk (given told now at n chunk same gives) none some read
-
 pub over_read : (told : Option (List ℕ)) (limit at : ℕ) → limit < at → IfSome told (λ file. at ≤ length file) → IfSome told (λ file. limit < length file)
 over_read None limit at over read = tt
 over_read (Some file) limit at over read = omega (arith, over, read)

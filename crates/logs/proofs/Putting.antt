@@ -1,7 +1,6 @@
 -- What is known after one table has another value.
-use Rattle.std.proofs.Common.{◌≡◌, ℕ, Bool, true, false, not, ◌==◌, ◌&&◌, ◌||◌, Option, Some, option_map, if◌then◌else◌, ap, sym, ◌∙◌, refl}
-use Rattle.std.specs.Cmp.{both_ways}
-use Rattle.std.proofs.lemmas.Bool.{eq-eqb, eqb-true}
+use Rattle.std.proofs.Common.{◌≡◌, ℕ, Bool, true, false, not, ◌==◌, ◌&&◌, ◌||◌, Option, Some, option_map, if◌then◌else◌, ap, ◌∙◌, refl}
+use Rattle.base.proofs.NumberLemmas.{eqb_turned}
 use Rattle.logs.specs.Events.{LogLine}
 use Rattle.logs.specs.Judging.{put_known}
 use Rattle.logs.specs.Memory as memory
@@ -56,9 +55,6 @@ module _ (old : Cells) (table : Table Content) (n : ℕ) (x : Content) where
 
 -- What is known after a turn.
 
-eqb_flip : (a b : ℕ) → (a == b) ≡ (b == a)
-eqb_flip a b = both_ways (a == b) (b == a) (λ e. eq-eqb b a (sym (eqb-true a b e))) (λ e. eq-eqb a b (sym (eqb-true b a e)))
-
 module _ (phase : Phase) (o : Option Phase) where
   depth_if : (d : ℕ) (b : Bool) → phase.depth ≡ d → depth_of (if b then Some phase else o) ≡ (if b then d else depth_of o)
   depth_if d true e = e
@@ -78,5 +74,5 @@ after_is old cells phases line d x phase in_cells in_phases deep committed = λ 
   depth = λ u. (ap depth_of (in_phases u) ∙ depth_if phase (value_in_table old.phases u) d (line.thread == u) deep) i;
   committed = λ u. (ap (λ o. not (commit_of o == 0)) (in_phases u)
       ∙ commit_if phase (value_in_table old.phases u) (not (d == 0) && ((known_of old).committed line.thread || is_commit x.kind)) (line.thread == u) committed
-      ∙ ap (λ b. if b then not (d == 0) && ((known_of old).committed line.thread || is_commit x.kind) else (known_of old).committed u) (eqb_flip line.thread u)) i;
+      ∙ ap (λ b. if b then not (d == 0) && ((known_of old).committed line.thread || is_commit x.kind) else (known_of old).committed u) (eqb_turned line.thread u)) i;
 }
