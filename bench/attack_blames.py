@@ -7,14 +7,12 @@ docs/formats.md.
 """
 from __future__ import annotations
 
-import os
 import sys
-import tempfile
 from collections.abc import Callable
 from typing import Optional
 
-from attack_books import BASICS, Attack, measured
-from command_line import PROGRAM, program_of, words_of
+from attack_books import BASICS, Attack, Target, run_attacks
+from command_line import words_of
 
 MAIN = "class Main { void main() { } }\n"
 LIMIT = 16777216
@@ -97,26 +95,6 @@ CERTIFICATES: dict[str, Callable[[], Attack]] = {
 }
 
 
-def main() -> int:
-    parser = words_of(__doc__)
-    parser.add_argument("program", metavar="PROGRAM", type=program_of, help=PROGRAM)
-    parser.add_argument("names", metavar="NAME", nargs="*", help="those whose name has this text; else all")
-    given = parser.parse_args()
-    program, names, good = given.program, given.names, True
-    with tempfile.TemporaryDirectory() as folder:
-        for name, make in CERTIFICATES.items():
-            if names and not any(part in name for part in names):
-                continue
-            source, text = make()
-            for file, data in (("source", source), ("certificate", text)):
-                with open(os.path.join(folder, file), "w", encoding="ascii") as out:
-                    out.write(data)
-            status, seconds, peak, answer = measured([program, "verify-blame", "source", "certificate"], folder)
-            good = good and status in (0, 8, 13) and seconds <= 20 and peak <= 64 + 10 * len(text) / 1048576
-            sizes = f"source of {len(source):,}, certificate of {len(text):,} bytes"
-            print(f"{name}: {sizes}, status {status}, {seconds:.2f} s, {peak:.0f} MB, {answer or '-'}", flush=True)
-    return 0 if good else 1
-
-
 if __name__ == "__main__":
-    sys.exit(main())
+    target = Target("verify-blame", "certificate", (0, 8, 13), lambda length: 64 + 10 * length / 1048576)
+    sys.exit(run_attacks(target, CERTIFICATES, words_of(__doc__)))

@@ -13,9 +13,10 @@ import subprocess
 import sys
 import tempfile
 import time
-from collections.abc import Callable
+from collections.abc import Callable, Mapping
+from dataclasses import dataclass
 
-from command_line import PROGRAM, program_of, words_of
+from command_line import PROGRAM, Words, program_of, words_of
 
 # a source and a text for it
 Attack = tuple[str, str]
@@ -125,26 +126,42 @@ def measured(words: list[str], folder: str) -> tuple[int, float, float, str]:
     return int(status), time.time() - began, int(peak) / 1024, text
 
 
-def main() -> int:
-    parser = words_of(__doc__)
+@dataclass(frozen=True)
+class Target:
+    """A command that is attacked: its word, what it reads beside a source, the statuses that are right, and the
+    megabytes that a text of so many bytes may take."""
+
+    word: str
+    evidence: str
+    statuses: tuple[int, ...]
+    megabytes: Callable[[int], float]
+
+    def answer(self, program: str, attack: Attack, folder: str) -> tuple[bool, str]:
+        """Whether status, seconds and memory are as they should be, and what is told of them."""
+        source, text = attack
+        for file, data in (("source", source), (self.evidence, text)):
+            with open(os.path.join(folder, file), "w", encoding="ascii") as out:
+                out.write(data)
+        status, seconds, peak, said = measured([program, self.word, "source", self.evidence], folder)
+        good = status in self.statuses and seconds <= 20 and peak <= self.megabytes(len(text))
+        sizes = f"source of {len(source):,}, {self.evidence} of {len(text):,} bytes"
+        return good, f"{sizes}, status {status}, {seconds:.2f} s, {peak:.0f} MB, {said or '-'}"
+
+
+def run_attacks(target: Target, attacks: Mapping[str, Callable[[], Attack]], parser: Words) -> int:
+    """Tries the attacks that the command line names, and gives the exit status."""
     parser.add_argument("program", metavar="PROGRAM", type=program_of, help=PROGRAM)
     parser.add_argument("names", metavar="NAME", nargs="*", help="those whose name has this text; else all")
     given = parser.parse_args()
-    program, names, good = given.program, given.names, True
+    all_good = True
     with tempfile.TemporaryDirectory() as folder:
-        for name, make in BOOKS.items():
-            if names and not any(part in name for part in names):
-                continue
-            source, text = make()
-            for file, data in (("source", source), ("book", text)):
-                with open(os.path.join(folder, file), "w", encoding="ascii") as out:
-                    out.write(data)
-            status, seconds, peak, answer = measured([program, "verify", "source", "book"], folder)
-            good = good and status in (0, 8, 11) and seconds <= 20 and peak <= 256
-            told = f"book of {len(text):,} bytes, status {status}, {seconds:.2f} s, {peak:.0f} MB, {answer or '-'}"
-            print(f"{name}: {told}", flush=True)
-    return 0 if good else 1
+        for name, make in attacks.items():
+            if not given.names or any(part in name for part in given.names):
+                good, told = target.answer(given.program, make(), folder)
+                all_good = all_good and good
+                print(f"{name}: {told}", flush=True)
+    return 0 if all_good else 1
 
 
 if __name__ == "__main__":
-    sys.exit(main())
+    sys.exit(run_attacks(Target("verify", "book", (0, 8, 11), lambda length: 256), BOOKS, words_of(__doc__)))

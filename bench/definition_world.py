@@ -66,13 +66,20 @@ class World:
         file = self.file(module)
         if file is None:
             raise Unreadable(f"{module}.{name}")
+        meaning = self.within(file, name)
+        if meaning is not None:
+            return meaning
+        raise Unreadable(f"{module}.{name}")
+
+    def within(self, file: File, name: str) -> Optional[Meaning]:
+        """What a name means that a file defines or takes from another, None where it does neither."""
         if name in file.definitions:
             return ("definition", file, file.definitions[name])
         if name in file.constructors:
             return ("constructor", name, file.constructors[name])
         if name in file.names:
             return self.outside(*file.names[name])
-        raise Unreadable(f"{module}.{name}")
+        return None
 
     def std(self, name: str) -> Meaning:
         if name in STD_VALUES:
@@ -87,12 +94,9 @@ class World:
         raise Unreadable(f"std has {name}")
 
     def lookup(self, file: File, name: str) -> Meaning:
-        if name in file.definitions:
-            return ("definition", file, file.definitions[name])
-        if name in file.constructors:
-            return ("constructor", name, file.constructors[name])
-        if name in file.names:
-            return self.outside(*file.names[name])
+        meaning = self.within(file, name)
+        if meaning is not None:
+            return meaning
         if name in ("tt",):
             return ("constructor", name)
         if name == "[]":
