@@ -1,3 +1,4 @@
+pub mod AtOnce
 pub mod Fields
 pub mod FirstTokens
 pub mod Complete

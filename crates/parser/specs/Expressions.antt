@@ -1,5 +1,5 @@
 -- Recursive descent for expressions, with the height still allowed as its budget.
-use Rattle.std.specs.Prelude.{ℕ, zero, suc, ◌-◌, nat_lt, Bool, true, false, ◌||◌, List, [], Ok, if◌then◌else◌}
+use Rattle.std.specs.Prelude.{ℕ, zero, suc, ◌-◌, nat_lt, Bool, true, false, not, ◌||◌, List, [], ◌∷◌, Ok, if◌then◌else◌}
 use Rattle.lexer.specs.declared.tokens.Token.{Token}
 use Rattle.syntax.specs.declared.terminal.Terminal.TheVariants as T
 use Rattle.syntax.specs.declared.tree.Name.{Name}
@@ -8,7 +8,7 @@ use Rattle.syntax.specs.Tokens.{is}
 use Rattle.syntax.specs.Trees.{ExprTree, NumberE, LeastE, TruthE, NullE, ThisE, VarE, ParenE, NotE, NegE, BinaryE, GetE, CallE, NewE}
 use Rattle.syntax.specs.Views.{exprs_from}
 use Rattle.parser.specs.Combine.{Res, ◌>>=◌, starts, first, take_one, allow, beyond, loop, separated}
-use Rattle.parser.specs.Words.{a_name, is_name, a_number, may_be_number, is_least, a_least, an_op, is_op, field_name}
+use Rattle.parser.specs.Words.{a_name, is_name, a_number, may_be_number, is_least, a_least, an_op, is_op, is_any_op, field_name}
 
 -- whether an expression without parts begins with this token: a number, `true`, `false`, `null`, `this` or a name
 abbrev pub is_leaf : Token → Bool
@@ -17,6 +17,11 @@ is_leaf x = may_be_number x || is T.True x || is T.False x || is T.Null x || is 
 -- whether a token may stand first in an expression
 unfoldable pub begins_expression : Token → Bool
 begins_expression x = is T.OpenParen x || is T.New x || is T.Bang x || is T.Minus x || is_leaf x
+
+-- whether the first token is an operand by itself: no sign, parenthesis or `new` that makes more of it, and neither a dot nor an operator behind it
+unfoldable pub stands_alone : List Token → Bool
+stands_alone [] = false
+stands_alone (x ∷ xs) = not (is T.Bang x || is T.Minus x || is T.OpenParen x || is T.New x || starts (is T.Dot) xs || starts is_any_op xs)
 
 -- an expression without parts
 unfoldable pub leaf : List Token → Res ExprTree

@@ -10,7 +10,8 @@ ghost use Rattle.parser.specs.Statements.{block_goes_on as may_go_on};
 ghost use Rattle.parser.specs.Blocks.{block_at, braces, else_part as else_part_at, if_statement as if_statement_at, statement_at, statement_with, sync_statement as sync_statement_at, while_statement as while_statement_at};
 
 use crate::lexeme::Lexeme;
-use crate::plain::{condition, plain_statement};
+use crate::nodes::Parsed;
+use crate::plain::{condition, finish_from, plain_statement};
 use crate::starts::{begins_statement, goes_on};
 use crate::stop::{Stop, SyntaxFault};
 use crate::tokens::{accept, begins, take};
@@ -203,9 +204,9 @@ pub fn block<'t, 'a>(
     ))
 }
 
-/// A statement at most `high` nodes high; in a block it may be a declaration.
+/// A statement at most `high` nodes high; in a block it may be a declaration. One that begins with `this` is told first.
 #[cycle(statement)]
-#[tactic(auto, unfolding(crate::specs::Blocks::statement_with), using(crate::proofs::StatementLoops::statement_zero, crate::proofs::StatementLoops::statement_positive, crate::proofs::StatementLoops::block_statement_is))]
+#[tactic(auto, unfolding(crate::specs::Blocks::statement_with), using(crate::proofs::StatementLoops::statement_zero, crate::proofs::StatementLoops::statement_positive, crate::proofs::StatementLoops::block_statement_is, crate::proofs::StatementLoops::this_statement))]
 fn statement<'t, 'a>(
     alloc: Global,
     tokens: &'t [Lexeme<'a>],
@@ -220,6 +221,11 @@ fn statement<'t, 'a>(
             return Err(Stop::Fault(SyntaxFault::TooDeep, tokens));
         }
         return Err(Stop::Fault(SyntaxFault::Unexpected, tokens));
+    }
+    if let Some((at, rest)) = accept(tokens, Terminal::This) {
+        let tree = Box::new(alloc, Expr::This(at))?;
+        let height = 1;
+        return finish_from(alloc, Parsed { tree, height, rest }, high);
     }
     if begins(tokens, Terminal::OpenBrace) {
         let (inside, rest) = block(alloc, tokens, high)?;

@@ -10,10 +10,12 @@ ghost use Rattle.parser.specs.Expressions.{arguments as arguments_at, below, cal
 
 use crate::levels::operations;
 use crate::lexeme::Lexeme;
-use crate::nodes::{Arguments, Parsed, leaf, leaf_of, make_call, make_new};
+use crate::nodes::{Arguments, Parsed, leaf, make_call, make_new};
 use crate::stop::{Stop, SyntaxFault};
-use crate::tokens::{accept, begins, begins_expression, begins_least, least, name, take};
-use crate::words::field_name;
+use crate::tokens::{
+    accept, begins, begins_expression, begins_least, least, name, stands_alone, take,
+};
+use crate::words::{field_name, last_field};
 use std::alloc::Global;
 use syntax::{Expr, Name, Terminal};
 
@@ -44,7 +46,7 @@ fn next_argument<'t, 'a>(
     } = so_far;
     let (_, rest) = take(rest, Terminal::Comma)?;
     let argument = chain(alloc, rest, high - 1, LEVELS)?;
-    items.push(argument.tree)?;
+    items.push(Box::into_inner(argument.tree))?;
     Ok(Arguments {
         items,
         height: height.max(argument.height),
@@ -75,7 +77,7 @@ fn argument_list<'t, 'a>(
         return Ok(list);
     }
     let argument = chain(alloc, tokens, high - 1, LEVELS)?;
-    list.items.push(argument.tree)?;
+    list.items.push(Box::into_inner(argument.tree))?;
     list.height = argument.height;
     list.rest = argument.rest;
     while begins(list.rest, Terminal::Comma) {
@@ -124,8 +126,8 @@ pub fn new_rest<'t, 'a>(
 ) -> Result<Parsed<'t, 'a>, Stop<'t, 'a>>
     requires high { high ≤ most_height }
     requires positive { 0 < high }
-    ensures tree { Gives (λ x. (expr_tree x.tree, x.rest.now)) result (new_rest_at high (below high) at tokens.now) }
-    ensures height { IfOk result (λ x. x.height ≡ height_of (expr_tree x.tree)) }
+    ensures tree { Gives (λ x. (expr_tree x.tree.value, x.rest.now)) result (new_rest_at high (below high) at tokens.now) }
+    ensures height { IfOk result (λ x. x.height ≡ height_of (expr_tree x.tree.value)) }
     ensures limit { IfOk result (λ x. x.height ≤ high) }
 {
     let (class, rest) = name(tokens)?;
@@ -135,7 +137,7 @@ pub fn new_rest<'t, 'a>(
         rest,
     } = arguments_in_parentheses(alloc, rest, high)?;
     Ok(Parsed {
-        tree: make_new(class, items, at),
+        tree: Box::new(alloc, make_new(class, items, at))?,
         height: height + 1,
         rest,
     })
@@ -151,16 +153,15 @@ fn parenthesised<'t, 'a>(
 ) -> Result<Parsed<'t, 'a>, Stop<'t, 'a>>
     requires high { high ≤ most_height }
     requires positive { 0 < high }
-    ensures tree { Gives (λ x. (expr_tree x.tree, x.rest.now)) result (parenthesised_at high (below high) tokens.now) }
-    ensures height { IfOk result (λ x. x.height ≡ height_of (expr_tree x.tree)) }
+    ensures tree { Gives (λ x. (expr_tree x.tree.value, x.rest.now)) result (parenthesised_at high (below high) tokens.now) }
+    ensures height { IfOk result (λ x. x.height ≡ height_of (expr_tree x.tree.value)) }
     ensures limit { IfOk result (λ x. x.height ≤ high) }
 {
     let (at, rest) = take(tokens, Terminal::OpenParen)?;
     let Parsed { tree, height, rest } = chain(alloc, rest, high - 1, LEVELS)?;
-    let inside = Box::new(alloc, tree)?;
     let (_, rest) = take(rest, Terminal::CloseParen)?;
     Ok(Parsed {
-        tree: Expr::Paren(inside, at),
+        tree: Box::new(alloc, Expr::Paren(tree, at))?,
         height: height + 1,
         rest,
     })
@@ -176,8 +177,8 @@ pub fn primary<'t, 'a>(
 ) -> Result<Parsed<'t, 'a>, Stop<'t, 'a>>
     requires high { high ≤ most_height }
     requires positive { 0 < high }
-    ensures tree { Gives (λ x. (expr_tree x.tree, x.rest.now)) result (primary_at high (below high) tokens.now) }
-    ensures height { IfOk result (λ x. x.height ≡ height_of (expr_tree x.tree)) }
+    ensures tree { Gives (λ x. (expr_tree x.tree.value, x.rest.now)) result (primary_at high (below high) tokens.now) }
+    ensures height { IfOk result (λ x. x.height ≡ height_of (expr_tree x.tree.value)) }
     ensures limit { IfOk result (λ x. x.height ≤ high) }
 {
     if begins(tokens, Terminal::OpenParen) {
@@ -186,7 +187,7 @@ pub fn primary<'t, 'a>(
     if let Some((at, rest)) = accept(tokens, Terminal::New) {
         return new_rest(alloc, rest, high, at);
     }
-    leaf(tokens)
+    leaf(alloc, tokens)
 }
 
 /// What stands behind a dot and a name: arguments, or nothing.
@@ -204,8 +205,8 @@ fn member_rest<'t, 'a>(
     requires positive { 0 < high }
     requires height { height ≡ height_of (expr_tree receiver.value) }
     requires limit { height < high }
-    ensures tree { Gives (λ x. (expr_tree x.tree, x.rest.now)) result (member_rest_at high (below high) (expr_tree receiver.entry.value) member.entry tokens.now) }
-    ensures height { IfOk result (λ x. x.height ≡ height_of (expr_tree x.tree)) }
+    ensures tree { Gives (λ x. (expr_tree x.tree.value, x.rest.now)) result (member_rest_at high (below high) (expr_tree receiver.entry.value) member.entry tokens.now) }
+    ensures height { IfOk result (λ x. x.height ≡ height_of (expr_tree x.tree.value)) }
     ensures limit { IfOk result (λ x. x.height ≤ high) }
     ensures grows { IfOk result (λ x. height < x.height) }
 {
@@ -217,13 +218,13 @@ fn member_rest<'t, 'a>(
             rest,
         } = list;
         return Ok(Parsed {
-            tree: make_call(receiver, member, items),
+            tree: Box::new(alloc, make_call(receiver, member, items))?,
             height: height.max(highest) + 1,
             rest,
         });
     }
     Ok(Parsed {
-        tree: Expr::Get(receiver, member),
+        tree: Box::new(alloc, Expr::Get(receiver, member))?,
         height: height + 1,
         rest: tokens,
     })
@@ -239,19 +240,18 @@ fn member<'t, 'a>(
 ) -> Result<Parsed<'t, 'a>, Stop<'t, 'a>>
     requires high { high ≤ most_height }
     requires positive { 0 < high }
-    requires height { receiver.height ≡ height_of (expr_tree receiver.tree) }
-    ensures tree { Gives (λ x. (expr_tree x.tree, x.rest.now)) result (member_step_at high (below high) (expr_tree receiver.entry.tree) receiver.entry.rest.now) }
-    ensures height { IfOk result (λ x. x.height ≡ height_of (expr_tree x.tree)) }
+    requires height { receiver.height ≡ height_of (expr_tree receiver.tree.value) }
+    ensures tree { Gives (λ x. (expr_tree x.tree.value, x.rest.now)) result (member_step_at high (below high) (expr_tree receiver.entry.tree.value) receiver.entry.rest.now) }
+    ensures height { IfOk result (λ x. x.height ≡ height_of (expr_tree x.tree.value)) }
     ensures limit { IfOk result (λ x. x.height ≤ high) }
     ensures grows { IfOk result (λ x. receiver.entry.height < x.height) }
 {
     let Parsed { tree, height, rest } = receiver;
-    let whole = Box::new(alloc, tree)?;
     if high <= height {
         return Err(Stop::Fault(SyntaxFault::TooDeep, rest));
     }
     let (member, rest) = field_name(rest)?;
-    member_rest(alloc, whole, height, member, rest, high)
+    member_rest(alloc, tree, height, member, rest, high)
 }
 
 /// The fields and calls behind an expression.
@@ -264,10 +264,10 @@ pub fn dots<'t, 'a>(
 ) -> Result<Parsed<'t, 'a>, Stop<'t, 'a>>
     requires high { high ≤ most_height }
     requires positive { 0 < high }
-    requires height { front.height ≡ height_of (expr_tree front.tree) }
+    requires height { front.height ≡ height_of (expr_tree front.tree.value) }
     requires limit { front.height ≤ high }
-    ensures tree { Gives (λ x. (expr_tree x.tree, x.rest.now)) result (dots_at high (below high) (expr_tree front.entry.tree) front.entry.rest.now) }
-    ensures height { IfOk result (λ x. x.height ≡ height_of (expr_tree x.tree)) }
+    ensures tree { Gives (λ x. (expr_tree x.tree.value, x.rest.now)) result (dots_at high (below high) (expr_tree front.entry.tree.value) front.entry.rest.now) }
+    ensures height { IfOk result (λ x. x.height ≡ height_of (expr_tree x.tree.value)) }
     ensures limit { IfOk result (λ x. x.height ≤ high) }
 {
     let mut whole = front;
@@ -277,8 +277,9 @@ pub fn dots<'t, 'a>(
     Ok(whole)
 }
 
+/// What an expression begins with, and all dots behind that. Most often there is none, or one field.
 #[cycle(expression)]
-#[tactic(auto, unfolding(crate::specs::Expressions::postfix))]
+#[tactic(auto, unfolding(crate::specs::Expressions::postfix), using(crate::proofs::AtOnce::dots_field))]
 fn postfix<'t, 'a>(
     alloc: Global,
     tokens: &'t [Lexeme<'a>],
@@ -286,11 +287,25 @@ fn postfix<'t, 'a>(
 ) -> Result<Parsed<'t, 'a>, Stop<'t, 'a>>
     requires high { high ≤ most_height }
     requires positive { 0 < high }
-    ensures tree { Gives (λ x. (expr_tree x.tree, x.rest.now)) result (postfix_at high (below high) tokens.now) }
-    ensures height { IfOk result (λ x. x.height ≡ height_of (expr_tree x.tree)) }
+    ensures tree { Gives (λ x. (expr_tree x.tree.value, x.rest.now)) result (postfix_at high (below high) tokens.now) }
+    ensures height { IfOk result (λ x. x.height ≡ height_of (expr_tree x.tree.value)) }
     ensures limit { IfOk result (λ x. x.height ≤ high) }
 {
     let front = primary(alloc, tokens, high)?;
+    if front.height < high {
+        if let Some((field, rest)) = last_field(front.rest) {
+            let Parsed {
+                tree,
+                height,
+                rest: _,
+            } = front;
+            return Ok(Parsed {
+                tree: Box::new(alloc, Expr::Get(tree, field))?,
+                height: height + 1,
+                rest,
+            });
+        }
+    }
     dots(alloc, front, high)
 }
 
@@ -305,17 +320,21 @@ fn negated<'t, 'a>(
 ) -> Result<Parsed<'t, 'a>, Stop<'t, 'a>>
     requires high { high ≤ most_height }
     requires positive { 0 < high }
-    ensures tree { Gives (λ x. (expr_tree x.tree, x.rest.now)) result (negated_at high (below high) at tokens.now) }
-    ensures height { IfOk result (λ x. x.height ≡ height_of (expr_tree x.tree)) }
+    ensures tree { Gives (λ x. (expr_tree x.tree.value, x.rest.now)) result (negated_at high (below high) at tokens.now) }
+    ensures height { IfOk result (λ x. x.height ≡ height_of (expr_tree x.tree.value)) }
     ensures limit { IfOk result (λ x. x.height ≤ high) }
 {
     if begins_least(tokens) {
         let (_, rest) = least(tokens)?;
-        return Ok(leaf_of(Expr::Least(at), rest));
+        return Ok(Parsed {
+            tree: Box::new(alloc, Expr::Least(at))?,
+            height: 1,
+            rest,
+        });
     }
     let Parsed { tree, height, rest } = chain(alloc, tokens, high - 1, 0)?;
     Ok(Parsed {
-        tree: Expr::Neg(Box::new(alloc, tree)?, at),
+        tree: Box::new(alloc, Expr::Neg(tree, at))?,
         height: height + 1,
         rest,
     })
@@ -330,14 +349,14 @@ pub(crate) fn unary<'t, 'a>(
 ) -> Result<Parsed<'t, 'a>, Stop<'t, 'a>>
     requires high { high ≤ most_height }
     requires positive { 0 < high }
-    ensures tree { Gives (λ x. (expr_tree x.tree, x.rest.now)) result (unary_at high (below high) tokens.now) }
-    ensures height { IfOk result (λ x. x.height ≡ height_of (expr_tree x.tree)) }
+    ensures tree { Gives (λ x. (expr_tree x.tree.value, x.rest.now)) result (unary_at high (below high) tokens.now) }
+    ensures height { IfOk result (λ x. x.height ≡ height_of (expr_tree x.tree.value)) }
     ensures limit { IfOk result (λ x. x.height ≤ high) }
 {
     if let Some((at, rest)) = accept(tokens, Terminal::Bang) {
         let Parsed { tree, height, rest } = chain(alloc, rest, high - 1, 0)?;
         return Ok(Parsed {
-            tree: Expr::Not(Box::new(alloc, tree)?, at),
+            tree: Box::new(alloc, Expr::Not(tree, at))?,
             height: height + 1,
             rest,
         });
@@ -350,7 +369,7 @@ pub(crate) fn unary<'t, 'a>(
 
 /// An expression at most `high` nodes high, whose operators are of the first levels.
 #[cycle(expression)]
-#[tactic(auto, using(crate::proofs::Loops::chain_zero, crate::proofs::Loops::chain_positive))]
+#[tactic(auto, using(crate::proofs::Loops::chain_zero, crate::proofs::Loops::chain_positive, crate::proofs::AtOnce::chain_alone))]
 pub fn chain<'t, 'a>(
     alloc: Global,
     tokens: &'t [Lexeme<'a>],
@@ -359,8 +378,8 @@ pub fn chain<'t, 'a>(
 ) -> Result<Parsed<'t, 'a>, Stop<'t, 'a>>
     requires high { high ≤ most_height }
     requires levels { levels ≤ 6 }
-    ensures tree { Gives (λ x. (expr_tree x.tree, x.rest.now)) result (chain_at high levels tokens.now) }
-    ensures height { IfOk result (λ x. x.height ≡ height_of (expr_tree x.tree)) }
+    ensures tree { Gives (λ x. (expr_tree x.tree.value, x.rest.now)) result (chain_at high levels tokens.now) }
+    ensures height { IfOk result (λ x. x.height ≡ height_of (expr_tree x.tree.value)) }
     ensures limit { IfOk result (λ x. x.height ≤ high) }
 {
     if high == 0 {
@@ -368,6 +387,9 @@ pub fn chain<'t, 'a>(
             return Err(Stop::Fault(SyntaxFault::TooDeep, tokens));
         }
         return Err(Stop::Fault(SyntaxFault::Unexpected, tokens));
+    }
+    if stands_alone(tokens) {
+        return leaf(alloc, tokens);
     }
     operations(alloc, tokens, high, levels)
 }

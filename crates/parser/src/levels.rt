@@ -28,14 +28,17 @@ fn operation<'t, 'a>(
     requires high { high ≤ most_height }
     requires positive { 0 < high }
     requires levels { levels < 6 }
-    requires height { left.height ≡ height_of (expr_tree left.tree) }
-    ensures tree { Gives (λ x. (expr_tree x.tree, x.rest.now)) result (op_step high (below high) levels (expr_tree left.entry.tree) left.entry.rest.now) }
-    ensures height { IfOk result (λ x. x.height ≡ height_of (expr_tree x.tree)) }
+    requires height { left.height ≡ height_of (expr_tree left.tree.value) }
+    ensures tree { Gives (λ x. (expr_tree x.tree.value, x.rest.now)) result (op_step high (below high) levels (expr_tree left.entry.tree.value) left.entry.rest.now) }
+    ensures height { IfOk result (λ x. x.height ≡ height_of (expr_tree x.tree.value)) }
     ensures limit { IfOk result (λ x. x.height ≤ high) }
     ensures grows { IfOk result (λ x. left.entry.height < x.height) }
 {
-    let Parsed { tree, height, rest } = left;
-    let operand = Box::new(alloc, tree)?;
+    let Parsed {
+        tree: operand,
+        height,
+        rest,
+    } = left;
     if high <= height {
         return Err(Stop::Fault(SyntaxFault::TooDeep, rest));
     }
@@ -47,7 +50,7 @@ fn operation<'t, 'a>(
         rest,
     } = right;
     Ok(Parsed {
-        tree: make_binary(op, operand, Box::new(alloc, tree)?, at),
+        tree: Box::new(alloc, make_binary(op, operand, tree, at))?,
         height: height.max(other) + 1,
         rest,
     })
@@ -66,10 +69,10 @@ fn operators<'t, 'a>(
     requires positive { 0 < high }
     requires first { 0 < levels }
     requires levels { levels ≤ 6 }
-    requires height { front.height ≡ height_of (expr_tree front.tree) }
+    requires height { front.height ≡ height_of (expr_tree front.tree.value) }
     requires limit { front.height ≤ high }
-    ensures tree { Gives (λ x. (expr_tree x.tree, x.rest.now)) result (loop (is_op levels) (op_step high (below high) (levels - 1)) (expr_tree front.entry.tree) front.entry.rest.now) }
-    ensures height { IfOk result (λ x. x.height ≡ height_of (expr_tree x.tree)) }
+    ensures tree { Gives (λ x. (expr_tree x.tree.value, x.rest.now)) result (loop (is_op levels) (op_step high (below high) (levels - 1)) (expr_tree front.entry.tree.value) front.entry.rest.now) }
+    ensures height { IfOk result (λ x. x.height ≡ height_of (expr_tree x.tree.value)) }
     ensures limit { IfOk result (λ x. x.height ≤ high) }
 {
     let mut whole = front;
@@ -91,8 +94,8 @@ pub(crate) fn operations<'t, 'a>(
     requires high { high ≤ most_height }
     requires positive { 0 < high }
     requires levels { levels ≤ 6 }
-    ensures tree { Gives (λ x. (expr_tree x.tree, x.rest.now)) result (chain_with high (below high) levels tokens.now) }
-    ensures height { IfOk result (λ x. x.height ≡ height_of (expr_tree x.tree)) }
+    ensures tree { Gives (λ x. (expr_tree x.tree.value, x.rest.now)) result (chain_with high (below high) levels tokens.now) }
+    ensures height { IfOk result (λ x. x.height ≡ height_of (expr_tree x.tree.value)) }
     ensures limit { IfOk result (λ x. x.height ≤ high) }
 {
     let mut whole = unary(alloc, tokens, high)?;

@@ -309,11 +309,12 @@ fn rank_at(token: &Token) -> u32
 fn ranked<'a>(token: &Token<'a>) -> Lexeme<'a>
     ensures { result ≡ token.now }
 {
+    let rank = rank_at(token);
     Lexeme {
         kind: token.kind,
         text: token.text,
         at: token.at,
-        rank: rank_at(token),
+        rank,
     }
 }
 

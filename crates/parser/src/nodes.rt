@@ -10,12 +10,13 @@ ghost use Rattle.parser.specs.Expressions.{leaf as leaf_at};
 use crate::lexeme::Lexeme;
 use crate::stop::Stop;
 use crate::tokens::{accept, begins_number, name, number};
+use std::alloc::Global;
 use syntax::{Expr, Name, Op, Terminal};
 
 /// An expression, its height, and the tokens behind it.
 #[derive(Drop)]
 pub struct Parsed<'t, 'a> {
-    pub tree: Expr<'a>,
+    pub tree: Box<Expr<'a>>,
     pub height: u32,
     pub rest: &'t [Lexeme<'a>],
 }
@@ -28,43 +29,47 @@ pub struct Arguments<'t, 'a> {
     pub rest: &'t [Lexeme<'a>],
 }
 
-pub(crate) fn leaf_of<'t, 'a>(tree: Expr<'a>, rest: &'t [Lexeme<'a>]) -> Parsed<'t, 'a>
-    ensures tree { expr_tree result.tree ≡ expr_tree tree.entry }
-    ensures height { result.height ≡ 1 }
-    ensures rest { result.rest.now ≡ rest.now }
-{
-    Parsed {
-        tree,
-        height: 1,
-        rest,
-    }
-}
-
-/// A number, a truth value, `null`, `this` or a name.
+/// A number, a truth value, `null`, `this` or a name, and the tokens behind it.
 #[tactic(auto, unfolding(crate::specs::Expressions::leaf))]
-pub(crate) fn leaf<'t, 'a>(tokens: &'t [Lexeme<'a>]) -> Result<Parsed<'t, 'a>, Stop<'t, 'a>>
-    ensures tree { Gives (λ x. (expr_tree x.tree, x.rest.now)) result (leaf_at tokens.now) }
-    ensures height { IfOk result (λ x. x.height ≡ height_of (expr_tree x.tree)) }
-    ensures limit { IfOk result (λ x. x.height ≡ 1) }
+fn leaf_tree<'t, 'a>(tokens: &'t [Lexeme<'a>]) -> Result<(Expr<'a>, &'t [Lexeme<'a>]), Stop<'t, 'a>>
+    ensures tree { Gives (λ x. (expr_tree x.0, x.1.now)) result (leaf_at tokens.now) }
+    ensures height { IfOk result (λ x. height_of (expr_tree x.0) ≡ 1) }
 {
     if begins_number(tokens) {
         let ((value, at), rest) = number(tokens)?;
-        return Ok(leaf_of(Expr::Number(value, at), rest));
+        return Ok((Expr::Number(value, at), rest));
     }
     if let Some((at, rest)) = accept(tokens, Terminal::True) {
-        return Ok(leaf_of(Expr::Truth(true, at), rest));
+        return Ok((Expr::Truth(true, at), rest));
     }
     if let Some((at, rest)) = accept(tokens, Terminal::False) {
-        return Ok(leaf_of(Expr::Truth(false, at), rest));
+        return Ok((Expr::Truth(false, at), rest));
     }
     if let Some((at, rest)) = accept(tokens, Terminal::Null) {
-        return Ok(leaf_of(Expr::Null(at), rest));
+        return Ok((Expr::Null(at), rest));
     }
     if let Some((at, rest)) = accept(tokens, Terminal::This) {
-        return Ok(leaf_of(Expr::This(at), rest));
+        return Ok((Expr::This(at), rest));
     }
     let (variable, rest) = name(tokens)?;
-    Ok(leaf_of(Expr::Var(variable), rest))
+    Ok((Expr::Var(variable), rest))
+}
+
+/// A number, a truth value, `null`, `this` or a name.
+pub(crate) fn leaf<'t, 'a>(
+    alloc: Global,
+    tokens: &'t [Lexeme<'a>],
+) -> Result<Parsed<'t, 'a>, Stop<'t, 'a>>
+    ensures tree { Gives (λ x. (expr_tree x.tree.value, x.rest.now)) result (leaf_at tokens.now) }
+    ensures height { IfOk result (λ x. x.height ≡ height_of (expr_tree x.tree.value)) }
+    ensures limit { IfOk result (λ x. x.height ≡ 1) }
+{
+    let (tree, rest) = leaf_tree(tokens)?;
+    Ok(Parsed {
+        tree: Box::new(alloc, tree)?,
+        height: 1,
+        rest,
+    })
 }
 
 pub(crate) fn make_call<'a>(

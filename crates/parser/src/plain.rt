@@ -4,9 +4,10 @@ ghost use Rattle.std.specs.Prelude.{◌≡◌, ◌<◌, ◌≤◌};
 ghost use Rattle.syntax.specs.Grammar.{may_be_statement};
 ghost use Rattle.syntax.specs.Heights.{height as height_of};
 ghost use Rattle.syntax.specs.Limits.{most_height};
+ghost use Rattle.syntax.specs.Trees.{SetFieldS};
 ghost use Rattle.syntax.specs.Views.{expr_tree, stmt_of};
 ghost use Rattle.parser.specs.Answer.{Gives};
-ghost use Rattle.parser.specs.Statements.{assigned as assigned_at, call_end as call_end_at, condition as condition_at, expression as expression_at, expression_statement as expression_statement_at, finish as finish_at, finish_from as finish_from_at, local_rest as local_rest_at, local_statement as local_statement_at, name_statement as name_statement_at, new_statement as new_statement_at, plain_statement as plain_statement_at, print_statement as print_statement_at, return_statement as return_statement_at, start_rest as start_rest_at, target as target_at};
+ghost use Rattle.parser.specs.Statements.{assign as assign_at, assigned as assigned_at, call_end as call_end_at, condition as condition_at, expression as expression_at, expression_statement as expression_statement_at, finish as finish_at, finish_from as finish_from_at, local_rest as local_rest_at, local_statement as local_statement_at, name_statement as name_statement_at, new_statement as new_statement_at, plain_statement as plain_statement_at, print_statement as print_statement_at, return_statement as return_statement_at, start_rest as start_rest_at, target as target_at};
 
 use crate::expression::{LEVELS, chain, dots, new_rest, primary};
 use crate::lexeme::Lexeme;
@@ -14,9 +15,9 @@ use crate::nodes::Parsed;
 use crate::starts::{begins_declaration, begins_second_name};
 use crate::stop::{Stop, SyntaxFault};
 use crate::tokens::{accept, begins, begins_name, name, take};
-use crate::words::type_name;
+use crate::words::{last_field, type_name};
 use std::alloc::Global;
-use syntax::{Expr, Stmt, Terminal, TypeName};
+use syntax::{Expr, Name, Stmt, Terminal, TypeName};
 
 /// An expression that is a part of a node at most `high` nodes high.
 fn expression<'t, 'a>(
@@ -33,7 +34,7 @@ fn expression<'t, 'a>(
         height: _,
         rest,
     } = chain(alloc, tokens, high - 1, LEVELS)?;
-    Ok((Box::new(alloc, tree)?, rest))
+    Ok((tree, rest))
 }
 
 /// An expression in parentheses.
@@ -191,16 +192,14 @@ fn is_statement(expr: &Expr) -> bool
 /// The end of a call or `new` that stands as a statement.
 #[tactic(auto, unfolding(crate::specs::Statements::call_end))]
 fn call_end<'t, 'a>(
-    alloc: Global,
     front: Parsed<'t, 'a>,
     high: u32,
 ) -> Result<(Stmt<'a>, &'t [Lexeme<'a>]), Stop<'t, 'a>>
-    requires height { front.height ≡ height_of (expr_tree front.tree) }
-    ensures { Gives (λ x. (stmt_of x.0, x.1.now)) result (call_end_at high (expr_tree front.entry.tree) front.entry.rest.now) }
+    requires height { front.height ≡ height_of (expr_tree front.tree.value) }
+    ensures { Gives (λ x. (stmt_of x.0, x.1.now)) result (call_end_at high (expr_tree front.entry.tree.value) front.entry.rest.now) }
 {
     let Parsed { tree, height, rest } = front;
     let at = tree.first_at();
-    let call = Box::new(alloc, tree)?;
     if !begins(rest, Terminal::Semicolon) {
         return Err(Stop::Fault(SyntaxFault::Unexpected, rest));
     }
@@ -208,7 +207,7 @@ fn call_end<'t, 'a>(
         return Err(Stop::Fault(SyntaxFault::TooDeep, rest));
     }
     let (_, rest) = take(rest, Terminal::Semicolon)?;
-    Ok((Stmt::Do(call, at), rest))
+    Ok((Stmt::Do(tree, at), rest))
 }
 
 /// An assignment to what was read.
@@ -245,33 +244,60 @@ fn finish<'t, 'a>(
 ) -> Result<(Stmt<'a>, &'t [Lexeme<'a>]), Stop<'t, 'a>>
     requires high { high ≤ most_height }
     requires positive { 0 < high }
-    requires height { front.height ≡ height_of (expr_tree front.tree) }
-    ensures { Gives (λ x. (stmt_of x.0, x.1.now)) result (finish_at high (expr_tree front.entry.tree) front.entry.rest.now) }
+    requires height { front.height ≡ height_of (expr_tree front.tree.value) }
+    ensures { Gives (λ x. (stmt_of x.0, x.1.now)) result (finish_at high (expr_tree front.entry.tree.value) front.entry.rest.now) }
 {
     if is_statement(&front.tree) {
-        return call_end(alloc, front, high);
+        return call_end(front, high);
     }
     let Parsed {
         tree,
         height: _,
         rest,
     } = front;
-    target(alloc, tree, rest, high)
+    target(alloc, Box::into_inner(tree), rest, high)
+}
+
+/// An assignment to a field of what was read.
+#[tactic(auto, unfolding(crate::specs::Statements::assign))]
+fn field_assignment<'t, 'a>(
+    alloc: Global,
+    receiver: Box<Expr<'a>>,
+    field: Name<'a>,
+    tokens: &'t [Lexeme<'a>],
+    high: u32,
+) -> Result<(Stmt<'a>, &'t [Lexeme<'a>]), Stop<'t, 'a>>
+    requires high { high ≤ most_height }
+    requires positive { 0 < high }
+    ensures { Gives (λ x. (stmt_of x.0, x.1.now)) result (assign_at high (SetFieldS (expr_tree receiver.entry.value) field.entry) tokens.now) }
+{
+    let ((value, at), rest) = assigned(alloc, tokens, high)?;
+    Ok((Stmt::SetField(receiver, field, value, at), rest))
 }
 
 /// What stands behind a primary that begins a statement.
-#[tactic(auto, unfolding(crate::specs::Statements::finish_from))]
-fn finish_from<'t, 'a>(
+#[tactic(auto, unfolding(crate::specs::Statements::finish_from, crate::specs::Statements::finish), using(crate::proofs::AtOnce::dots_field))]
+pub(crate) fn finish_from<'t, 'a>(
     alloc: Global,
     front: Parsed<'t, 'a>,
     high: u32,
 ) -> Result<(Stmt<'a>, &'t [Lexeme<'a>]), Stop<'t, 'a>>
     requires high { high ≤ most_height }
     requires positive { 0 < high }
-    requires height { front.height ≡ height_of (expr_tree front.tree) }
+    requires height { front.height ≡ height_of (expr_tree front.tree.value) }
     requires limit { front.height ≤ high }
-    ensures { Gives (λ x. (stmt_of x.0, x.1.now)) result (finish_from_at high (expr_tree front.entry.tree) front.entry.rest.now) }
+    ensures { Gives (λ x. (stmt_of x.0, x.1.now)) result (finish_from_at high (expr_tree front.entry.tree.value) front.entry.rest.now) }
 {
+    if front.height < high {
+        if let Some((field, rest)) = last_field(front.rest) {
+            let Parsed {
+                tree,
+                height: _,
+                rest: _,
+            } = front;
+            return field_assignment(alloc, tree, field, rest, high);
+        }
+    }
     let whole = dots(alloc, front, high)?;
     finish(alloc, whole, high)
 }
@@ -312,7 +338,7 @@ fn name_statement<'t, 'a>(
         return local_rest(alloc, false, TypeName::Class(first), at, rest, high);
     }
     let front = Parsed {
-        tree: Expr::Var(first),
+        tree: Box::new(alloc, Expr::Var(first))?,
         height: 1,
         rest,
     };

@@ -6,7 +6,7 @@ ghost use Rattle.syntax.specs.Tokens.{is};
 ghost use Rattle.parser.specs.Answer.{Gives};
 ghost use Rattle.parser.specs.Combine.{first, flag as flag_at, starts, take_one};
 ghost use Rattle.parser.specs.Words.{a_least, a_name, a_number, an_op, is_least, is_name, may_be_number, is_any_op, is_op, op_of};
-ghost use Rattle.parser.specs.Expressions.{begins_expression as may_begin_expression, is_leaf as may_be_leaf};
+ghost use Rattle.parser.specs.Expressions.{begins_expression as may_begin_expression, is_leaf as may_be_leaf, stands_alone as stands_alone_at};
 
 use crate::lexeme::Lexeme;
 use crate::stop::{Stop, SyntaxFault};
@@ -256,6 +256,24 @@ pub fn operator<'t, 'a>(
             _ => Err(Stop::Fault(SyntaxFault::Unexpected, tokens)),
         },
         [] => Err(Stop::Fault(SyntaxFault::Unexpected, tokens)),
+    }
+}
+
+/// Whether the first token is an operand by itself, so that no part of an expression has to be asked for behind it.
+#[tactic(auto, unfolding(crate::specs::Expressions::stands_alone))]
+pub fn stands_alone(tokens: &[Lexeme]) -> bool
+    ensures { result ≡ stands_alone_at tokens.now }
+{
+    match tokens {
+        [token, rest @ ..] => {
+            !(token.is(Terminal::Bang)
+                || token.is(Terminal::Minus)
+                || token.is(Terminal::OpenParen)
+                || token.is(Terminal::New)
+                || begins(rest, Terminal::Dot)
+                || begins_any_operator(rest))
+        }
+        [] => false,
     }
 }
 

@@ -1,10 +1,10 @@
 //! Types, fields and locks.
 
-ghost use Rattle.std.specs.Prelude.{◌<◌, length, IfOk};
+ghost use Rattle.std.specs.Prelude.{◌≡◌, ◌<◌, Ok, true, false, length, IfOk, IfSome};
 ghost use Rattle.syntax.specs.Tokens.{is};
 ghost use Rattle.syntax.specs.Views.{lock_of};
 ghost use Rattle.parser.specs.Answer.{Gives};
-ghost use Rattle.parser.specs.Combine.{item_step, several};
+ghost use Rattle.parser.specs.Combine.{item_step, several, starts};
 ghost use Rattle.parser.specs.Words.{field_name as field_name_at, lock as lock_at, type_name as type_name_at};
 
 use crate::lexeme::Lexeme;
@@ -39,6 +39,24 @@ pub fn field_name<'t, 'a>(
 {
     let (_, rest) = take(tokens, Terminal::Dot)?;
     name(rest)
+}
+
+/// A dot and a name with neither arguments nor another dot behind them, where these stand here.
+#[tactic(auto, unfolding(crate::specs::Words::field_name))]
+pub fn last_field<'t, 'a>(tokens: &'t [Lexeme<'a>]) -> Option<(Name<'a>, &'t [Lexeme<'a>])>
+    ensures dot { IfSome result (λ x. starts (is Terminal.Dot) tokens.now ≡ true) }
+    ensures field { IfSome result (λ x. field_name_at tokens.now ≡ Ok (x.0, x.1.now)) }
+    ensures no_arguments { IfSome result (λ x. starts (is Terminal.OpenParen) x.1.now ≡ false) }
+    ensures no_dot { IfSome result (λ x. starts (is Terminal.Dot) x.1.now ≡ false) }
+{
+    let (_, behind) = accept(tokens, Terminal::Dot)?;
+    let Ok((field, rest)) = name(behind) else {
+        return None;
+    };
+    if begins(rest, Terminal::OpenParen) || begins(rest, Terminal::Dot) {
+        return None;
+    }
+    Some((field, rest))
 }
 
 /// One field more behind the root of a lock.

@@ -68,8 +68,8 @@ decreases-expression::argument_list-loop-alloc l = length l.list.rest.now
 
 abbrev pub invariant-expression::dots-loop-alloc : goal.invariant-expression::dots-loop-alloc
 invariant-expression::dots-loop-alloc l = record {
-  told : loop (is T.Dot) (member_step l.high (below l.high)) (expr_tree l.whole.tree) l.whole.rest.now ≡ dots_at l.high (below l.high) (expr_tree l.fn.front.tree) l.fn.front.rest.now;
-  height : l.whole.height ≡ height_of (expr_tree l.whole.tree);
+  told : loop (is T.Dot) (member_step l.high (below l.high)) (expr_tree l.whole.tree.value) l.whole.rest.now ≡ dots_at l.high (below l.high) (expr_tree l.fn.front.tree.value) l.fn.front.rest.now;
+  height : l.whole.height ≡ height_of (expr_tree l.whole.tree.value);
   limit : l.whole.height ≤ l.high;
 }
 
@@ -78,9 +78,9 @@ decreases-expression::dots-loop-alloc l = l.high - l.whole.height
 
 abbrev pub invariant-levels::operators-loop-alloc : goal.invariant-levels::operators-loop-alloc
 invariant-levels::operators-loop-alloc l = record {
-  told : loop (is_op l.levels) (op_step l.high (below l.high) (l.levels - 1)) (expr_tree l.whole.tree) l.whole.rest.now
-      ≡ loop (is_op l.levels) (op_step l.high (below l.high) (l.levels - 1)) (expr_tree l.fn.front.tree) l.fn.front.rest.now;
-  height : l.whole.height ≡ height_of (expr_tree l.whole.tree);
+  told : loop (is_op l.levels) (op_step l.high (below l.high) (l.levels - 1)) (expr_tree l.whole.tree.value) l.whole.rest.now
+      ≡ loop (is_op l.levels) (op_step l.high (below l.high) (l.levels - 1)) (expr_tree l.fn.front.tree.value) l.fn.front.rest.now;
+  height : l.whole.height ≡ height_of (expr_tree l.whole.tree.value);
   limit : l.whole.height ≤ l.high;
 }
 
@@ -89,8 +89,8 @@ decreases-levels::operators-loop-alloc l = l.high - l.whole.height
 
 abbrev pub invariant-levels::operations-loop-done : goal.invariant-levels::operations-loop-done
 invariant-levels::operations-loop-done l = record {
-  told : levels_from l.high (below l.high) (l.levels - l.done) l.done (expr_tree l.whole.tree) l.whole.rest.now ≡ chain_with l.high (below l.high) l.levels l.tokens;
-  height : l.whole.height ≡ height_of (expr_tree l.whole.tree);
+  told : levels_from l.high (below l.high) (l.levels - l.done) l.done (expr_tree l.whole.tree.value) l.whole.rest.now ≡ chain_with l.high (below l.high) l.levels l.tokens;
+  height : l.whole.height ≡ height_of (expr_tree l.whole.tree.value);
   limit : l.whole.height ≤ l.high;
 }
 
