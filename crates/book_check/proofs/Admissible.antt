@@ -41,7 +41,7 @@ tree_falls : (o : Option Cond) → IsAntitoneValue (value_of (tree_numbered o)) 
 tree_falls o falls = λ H K part. subst (λ z. AtMost z (tree_value o H)) (sym (cond_is o K)) (subst (λ z. AtMost (value_of (tree_numbered o) K) z) (sym (cond_is o H)) (falls H K part))
 
 -- a tree that tests relevant paths alone looks at no others
-looks_at : (rel : List PathData) (t : Cond) (H : Held) → tests_only rel t ≡ true → value_of t H ≡ value_of t (held_in rel H)
+pub looks_at : (rel : List PathData) (t : Cond) (H : Held) → tests_only rel t ≡ true → value_of t H ≡ value_of t (held_in rel H)
 looks_at rel (LeafC b) H only = refl
 looks_at rel (TestC p a b) H only =
     let here = and_parts (has_path rel p) (tests_only rel a && tests_only rel b) only in

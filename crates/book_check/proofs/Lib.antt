@@ -19,6 +19,7 @@ mod LineLemmas
 mod WorkLemmas
 mod VerdictLemmas
 mod PassLemmas
+mod OverLemmas
 pub mod CanonicalLemmas
 mod OneVerdict
 mod TextVerdict

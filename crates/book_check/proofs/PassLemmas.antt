@@ -57,7 +57,7 @@ pub record ShapesSoFar (methods : List Method) (lines : List Line) (m : ℕ) (nu
   pub counted : numbers ++ tree_numbers (drop m lines) ≡ tree_numbers lines
   pub shaped : (k : ℕ) → k < m → IsShapedAt k (slice_get methods k) (slice_get lines k)
 
-below_or : (k m : ℕ) → k < m + 1 → (k < m) ⊎ (k ≡ m)
+pub below_or : (k m : ℕ) → k < m + 1 → (k < m) ⊎ (k ≡ m)
 below_or zero zero h = inr refl
 below_or zero (suc m) h = inl (omega arith)
 below_or (suc k) zero h = absurd (omega (arith, h))

@@ -12,11 +12,12 @@ pub mod Pairs
 pub mod Merges
 pub mod Chains
 -- What the contracts of checking books cite. To read the contract: Parts, Rules and Conclusions of book_check, then Good, NearBooks, BookWork, Faults, Checks.
--- The others are what the private functions cite: Walks, Passes.
+-- The others are what the private functions cite: Walks, Overs, Passes.
 pub mod Good
 pub mod NearBooks
 pub mod Faults
 pub mod BookWork
 pub mod Checks
 pub mod Walks
+pub mod Overs
 pub mod Passes

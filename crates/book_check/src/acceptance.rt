@@ -20,19 +20,20 @@ ghost use Rattle.book_check.specs.declared.wrong.TextWrong.{TextWrong};
 ghost use Rattle.book_check.specs.declared.wrong.Wrong.{Wrong};
 ghost use Rattle.book_check.specs.Judges.{judge_near, judge_program, judge_table, AreCanonical};
 ghost use Rattle.book_check.specs.Nearness.{AreNear, AreOwnNear};
-ghost use Rattle.rules.specs.Overriding.{AreOverriders};
+ghost use Rattle.book_check.specs.Overs.{AreOversOf};
 ghost use Rattle.book_check.specs.Passes.{AreLinesJudged, IsBookVerdict};
 
 use crate::book_work::{MOST_WORK, is_little};
 use crate::checked::Checked;
 use crate::judge::Judge;
+use crate::overs::{Overs, overs_of};
 use crate::passes::{lines, shapes};
 use crate::work::Work;
 use crate::wrong::{TextWrong, Wrong};
 use books::{BookCursor, BookFault, DerivBook, Lines, LinesInMemory, read_book};
 use conditions::Tree;
 use core_program::CoreProgram;
-use rules::{OverridingMethods, RelevantSets, overriders};
+use rules::RelevantSets;
 use std::alloc::Global;
 use std::cell::Cell;
 use std::mem::forget;
@@ -64,12 +65,12 @@ fn is_work(fault: Wrong) -> bool
 fn judged_lines<L: Lines>(
     alloc: Global,
     judge: &Judge<'_>,
-    over: &OverridingMethods,
+    over: &Overs,
     from: L,
 ) -> Result<(), Wrong>
     requires kept { L.AreLinesKept from }
     requires canonical { AreCanonical (judge_table judge.now) }
-    requires overriders { AreOverriders (judge_program judge.now) over.now }
+    requires overs { AreOversOf judge.now (L.lines from) over.now }
     ensures judged { (table : List Cond) → AreLinesJudged judge.now (record { table = table; lines = L.lines from }) result }
     ensures near { AreOwnNear judge.now → ((m : ℕ) (line : Line) → slice_get (L.lines from) m ≡ Some line → AreNear (judge_near judge.now m) (judge_table judge.now) line.body) →
         IfErr result (λ fault. fault ≢ Wrong.Work) }
@@ -99,6 +100,8 @@ fn judged_book<L: Lines>(
 ) -> Result<(), Wrong>
     requires kept { L.AreLinesKept from }
     requires trees { AreTrees (map cond_of table.now) }
+    requires typed { IsTyped (program_of program.now) }
+    requires relevant { AreRelevant (program_of program.now) sets.now }
     ensures verdict { IsBookVerdict (program_of program.now) (rel_of sets.now) (record { table = map cond_of table.now; lines = L.lines from }) result }
     ensures near { IsNearBook (rel_of sets.now) (loc_of sets.now) (record { table = map cond_of table.now; lines = L.lines from }) → IfErr result (λ why. why ≢ Wrong.Work) }
     ensures work { IfErr result (λ why. why ≡ Wrong.Work → most_book_work < book_work (program_of program.now) (record { table = map cond_of table.now; lines = L.lines from })) }
@@ -113,7 +116,7 @@ fn judged_book<L: Lines>(
         table,
         lines: numbers.as_slice(),
     };
-    let over = overriders(alloc, program)?;
+    let over = overs_of(alloc, &judge)?;
     judged_lines(alloc, &judge, &over, from)
 }
 
@@ -124,6 +127,8 @@ fn judged_memory(
     sets: &RelevantSets,
     book: &DerivBook,
 ) -> Result<(), Wrong>
+    requires typed { IsTyped (program_of program.now) }
+    requires relevant { AreRelevant (program_of program.now) sets.now }
     ensures verdict { IsBookVerdict (program_of program.now) (rel_of sets.now) (book_of book.now) result }
     ensures near { IsNearBook (rel_of sets.now) (loc_of sets.now) (book_of book.now) → IfErr result (λ why. why ≢ Wrong.Work) }
     ensures work { IfErr result (λ why. why ≡ Wrong.Work → most_book_work < book_work (program_of program.now) (book_of book.now)) }
@@ -146,6 +151,8 @@ fn judged_and_kept(
     sets: &RelevantSets,
     book: DerivBook,
 ) -> Result<(), TextWrong>
+    requires typed { IsTyped (program_of program.now) }
+    requires relevant { AreRelevant (program_of program.now) sets.now }
     ensures judged { (bytes : List ℕ) → IsBookText bytes (book_of book) → IsJudgedText (program_of program.now) (rel_of sets.now) bytes result }
     ensures near { IsNearBook (rel_of sets.now) (loc_of sets.now) (book_of book) → IfErr result (λ why. why ≢ TextWrong.Wrong Wrong.Work) }
     ensures work { IfErr result (λ why. why ≡ TextWrong.Wrong Wrong.Work → most_book_work < book_work (program_of program.now) (book_of book)) }
@@ -165,7 +172,9 @@ fn judged_at(
     sets: &RelevantSets,
     cursor: BookCursor<'_>,
 ) -> Result<(), Wrong>
-    requires { (book : Book) × IsCursorAt cursor book }
+    requires book { (book : Book) × IsCursorAt cursor book }
+    requires typed { IsTyped (program_of program.now) }
+    requires relevant { AreRelevant (program_of program.now) sets.now }
     ensures verdict { (book : Book) → IsCursorAt cursor.entry book → IsBookVerdict (program_of program.now) (rel_of sets.now) book result }
     ensures near { (book : Book) → IsCursorAt cursor.entry book → IsNearBook (rel_of sets.now) (loc_of sets.now) book → IfErr result (λ why. why ≢ Wrong.Work) }
     ensures work { (book : Book) → IsCursorAt cursor.entry book → IfErr result (λ why. why ≡ Wrong.Work → most_book_work < book_work (program_of program.now) book) }
@@ -184,7 +193,9 @@ fn judged_in_place(
     sets: &RelevantSets,
     bytes: &[u8],
 ) -> Result<(), TextWrong>
-    requires { length bytes.now ≤ 16777216 }
+    requires short { length bytes.now ≤ 16777216 }
+    requires typed { IsTyped (program_of program.now) }
+    requires relevant { AreRelevant (program_of program.now) sets.now }
     ensures judged { IsJudgedText (program_of program.now) (rel_of sets.now) bytes.now result }
     ensures near { (book : Book) → IsBookText bytes.now book → IsNearBook (rel_of sets.now) (loc_of sets.now) book → IfErr result (λ why. why ≢ TextWrong.Wrong Wrong.Work) }
     ensures work { (book : Book) → IsBookText bytes.now book → IfErr result (λ why. why ≡ TextWrong.Wrong Wrong.Work → most_book_work < book_work (program_of program.now) book) }
@@ -207,7 +218,9 @@ fn judged(
     sets: &RelevantSets,
     bytes: &[u8],
 ) -> Result<(), TextWrong>
-    requires { length bytes.now ≤ 16777216 }
+    requires short { length bytes.now ≤ 16777216 }
+    requires typed { IsTyped (program_of program.now) }
+    requires relevant { AreRelevant (program_of program.now) sets.now }
     ensures judged { IsJudgedText (program_of program.now) (rel_of sets.now) bytes.now result }
     ensures near { (book : Book) → IsBookText bytes.now book → IsNearBook (rel_of sets.now) (loc_of sets.now) book → IfErr result (λ why. why ≢ TextWrong.Wrong Wrong.Work) }
     ensures work { (book : Book) → IsBookText bytes.now book → IfErr result (λ why. why ≡ TextWrong.Wrong Wrong.Work → most_book_work < book_work (program_of program.now) book) }

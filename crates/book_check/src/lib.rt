@@ -18,6 +18,7 @@ mod leaves;
 mod line;
 mod lookups;
 mod names;
+mod overs;
 mod pairs;
 mod parts;
 mod passes;

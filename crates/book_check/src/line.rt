@@ -6,16 +6,17 @@ ghost use Rattle.conditions.specs.Conditions.{cond_of, value_of, IsCanonical};
 ghost use Rattle.core_program.specs.Views.{method_of};
 ghost use Rattle.books.specs.Derivations.{node};
 ghost use Rattle.rules.specs.Rules.{declared_bound};
-ghost use Rattle.rules.specs.Overriding.{AreOverriders};
 ghost use Rattle.book_check.specs.Faults.{IsLineVerdict};
 ghost use Rattle.book_check.specs.Good.{IsAntitoneValue, IsTabled, IsUnder, IsUnderIn};
 ghost use Rattle.book_check.specs.declared.refusal.Refusal.{Refusal};
 ghost use Rattle.book_check.specs.Works.{IsUnbounded};
 ghost use Rattle.book_check.specs.Judges.{judge_assignment, judge_program, judge_rel, judge_table, judge_value, own_near, AreCanonical};
 ghost use Rattle.book_check.specs.Nearness.{is_near as is_near_of, steps_near, AreNear, AreOwnNear};
+ghost use Rattle.book_check.specs.Overs.{AreOversAt, AreOversUnder};
 
 use crate::lookups::{conclusion, is_near, is_own_near, line_tree, tree_or};
 use crate::names::{tests_only, where_held, within};
+use crate::overs::Overs;
 use crate::refusal::Refusal;
 use crate::steps::Steps;
 use crate::values::below;
@@ -28,7 +29,7 @@ use conditions::{Tree, Trees};
 use core_program::CoreMethod;
 use effects::BodyPart;
 use paths::{MethodId, Path};
-use rules::{OverridingMethods, bound_of};
+use rules::bound_of;
 use std::alloc::Global;
 
 /// Whether all three hold.
@@ -57,7 +58,7 @@ fn falls(t: &Tree) -> bool
 
 /// Whether a method's tree tests relevant paths only, and falls. A tree that tests others isn't looked at twice.
 #[tactic(auto, using(crate::proofs::LineLemmas::tabled_by, crate::proofs::LineLemmas::not_tabled))]
-fn is_tabled(rel: &[Path], t: &Tree) -> bool
+pub(crate) fn is_tabled(rel: &[Path], t: &Tree) -> bool
     requires { IsCanonical (cond_of t.now) }
     ensures { (result ≡ true) ↔ IsTabled rel.now (cond_of t.now) }
 {
@@ -128,7 +129,7 @@ fn is_under_in(
 }
 
 /// Whether the trees of these methods are.
-fn are_under_in(
+pub(crate) fn are_under_in(
     alloc: Global,
     steps: &Steps<'_>,
     rel: &[Path],
@@ -150,6 +151,32 @@ fn are_under_in(
     Ok(true)
 }
 
+/// Whether the trees of all methods that override this one are at or below the tree with this number. They are compared with it where
+/// that isn't known.
+fn are_overs_under(
+    alloc: Global,
+    steps: &Steps<'_>,
+    over: &Overs,
+    method: &CoreMethod,
+    own: u32,
+) -> Result<bool, Refusal>
+    requires canonical { AreCanonical (judge_table steps.now.judge.now) }
+    requires overs { AreOversAt steps.now.judge.now steps.now.method (method_of method.now) own over.now }
+    ensures under { IfOk result (λ b. (b ≡ true) ↔ AreOversUnder steps.now.judge.now steps.now.method (method_of method.now) (judge_value steps.now.judge.now own)) }
+    ensures near { AreOwnNear steps.now.judge.now → IfErr result (λ e. e ≡ Refusal.NoMemory) }
+    ensures free { IsUnbounded steps.now.left → IfErr result (λ e. e ≡ Refusal.NoMemory) }
+{
+    match over {
+        Overs::Below => Ok(true),
+        Overs::Unknown(rows) => {
+            let m = steps.method;
+            let rel = steps.judge.sets.rel(m);
+            let required = method.requires_.as_slice();
+            are_under_in(alloc, steps, rel, required, rows.of(m), own)
+        }
+    }
+}
+
 /// Whether a method's tree at its required paths keeps the bound.
 fn is_bounded(t: &Tree, method: &CoreMethod) -> bool
     requires { IsCanonical (cond_of t.now) }
@@ -164,13 +191,13 @@ fn is_bounded(t: &Tree, method: &CoreMethod) -> bool
 pub(crate) fn line_verdict<L: Lines>(
     alloc: Global,
     steps: &Steps<'_>,
-    over: &OverridingMethods,
+    over: &Overs,
     method: &CoreMethod,
     line: &FirstLine<L::Premises, L>,
 ) -> Result<Option<Wrong>, Refusal>
     requires kept { L.Premises.AreKept line.now.premises }
     requires canonical { AreCanonical (judge_table steps.now.judge.now) }
-    requires overriders { AreOverriders (judge_program steps.now.judge.now) over.now }
+    requires overs { AreOversAt steps.now.judge.now steps.now.method (method_of method.now) line.now.number over.now }
     ensures verdict { IfOk result (IsLineVerdict (judge_program steps.now.judge.now) (judge_rel steps.now.judge.now) (judge_table steps.now.judge.now) (judge_assignment steps.now.judge.now) steps.now.method
         (method_of method.now) (record { id = line.now.id; number = line.now.number; body = node line.now.word line.now.node (L.Premises.nodes line.now.premises) })) }
     ensures near { AreOwnNear steps.now.judge.now → AreNear (steps_near steps.now) (judge_table steps.now.judge.now) (node line.now.word line.now.node (L.Premises.nodes line.now.premises)) →
@@ -202,7 +229,7 @@ pub(crate) fn line_verdict<L: Lines>(
         End::Good(_) => (),
         End::Bad(node) => return Ok(Some(Wrong::Step { method: m.0, node })),
     }
-    if !are_under_in(alloc, steps, rel, required, over.of(m), line.number)? {
+    if !are_overs_under(alloc, steps, over, method, line.number)? {
         return Ok(Some(Wrong::Override { method: m.0 }));
     }
     if !is_bounded(tree, method) {

@@ -4,17 +4,18 @@ ghost use Rattle.std.specs.Prelude.{◌≡◌, ◌≢◌, ◌↔◌, ◌+◌, �
 ghost use Rattle.core_program.specs.Views.{method_of, program_of};
 ghost use Rattle.conditions.specs.Conditions.{Cond};
 ghost use Rattle.paths.specs.Paths.{PathData};
-ghost use Rattle.rules.specs.Overriding.{AreOverriders};
 ghost use Rattle.books.specs.Books.{Line};
-ghost use Rattle.book_check.specs.Judges.{judge_near, judge_program, judge_table, AreCanonical};
+ghost use Rattle.book_check.specs.Judges.{judge_near, judge_table, AreCanonical};
 ghost use Rattle.book_check.specs.Nearness.{steps_near, AreNear, AreOwnNear};
 ghost use Rattle.book_check.specs.declared.wrong.Wrong.{Wrong};
 ghost use Rattle.book_check.specs.Works.{IsUnbounded};
+ghost use Rattle.book_check.specs.Overs.{AreOversFirst, AreOversOf};
 ghost use Rattle.book_check.specs.Passes.{AreAllShaped, AreLinesJudged, IsFirstNear, IsLineStep, IsShapeStep};
 
 use crate::asked::Shapes;
 use crate::judge::Judge;
 use crate::line::line_verdict;
+use crate::overs::Overs;
 use crate::steps::Steps;
 use crate::walk::{End, WalkedNode, walk_node};
 use crate::work::Work;
@@ -23,7 +24,6 @@ use books::Lines;
 use core_program::{CoreMethod, CoreProgram};
 use effects::BodyPart;
 use paths::MethodId;
-use rules::OverridingMethods;
 use std::alloc::{AllocError as NoMemory, Global};
 
 /// Whether an id is this number.
@@ -66,7 +66,7 @@ fn next_shape<L: Lines>(
 }
 
 /// The next position; want of memory where there is none.
-fn next_position(m: u32) -> Result<u32, NoMemory>
+pub(crate) fn next_position(m: u32) -> Result<u32, NoMemory>
     ensures { IfOk result (λ next. next ≡ m + 1) }
 {
     match m.checked_add(1) {
@@ -110,12 +110,12 @@ pub(crate) fn lines<'a, L: Lines>(
     alloc: Global,
     work: Work<'a>,
     judge: &'a Judge<'a>,
-    over: &OverridingMethods,
+    over: &Overs,
     from: L,
 ) -> Result<(), Wrong>
     requires kept { L.AreLinesKept from }
     requires canonical { AreCanonical (judge_table judge.now) }
-    requires overriders { AreOverriders (judge_program judge.now) over.now }
+    requires overs { AreOversOf judge.now (L.lines from) over.now }
     ensures judged { (table : List Cond) → AreLinesJudged judge.now (record { table = table; lines = L.lines from }) result }
     ensures near { AreOwnNear judge.now → ((m : ℕ) (line : Line) → slice_get (L.lines from) m ≡ Some line → AreNear (judge_near judge.now m) (judge_table judge.now) line.body) →
         IfErr result (λ fault. fault ≢ Wrong.Work) }
@@ -144,13 +144,13 @@ pub(crate) fn lines<'a, L: Lines>(
 fn next_verdict<L: Lines>(
     alloc: Global,
     steps: &Steps<'_>,
-    over: &OverridingMethods,
+    over: &Overs,
     method: &CoreMethod,
     from: L,
 ) -> Result<L, Wrong>
     requires kept { L.AreLinesKept from }
     requires canonical { AreCanonical (judge_table steps.now.judge.now) }
-    requires overriders { AreOverriders (judge_program steps.now.judge.now) over.now }
+    requires overs { AreOversFirst steps.now.judge.now steps.now.method (method_of method.now) (L.lines from) over.now }
     ensures step { IsLineStep L.lines steps.now.judge.now steps.now.method (method_of method.now) (L.lines from) result }
     ensures kept { IfOk result L.AreLinesKept }
     ensures near { AreOwnNear steps.now.judge.now → IsFirstNear (steps_near steps.now) (judge_table steps.now.judge.now) (L.lines from) →

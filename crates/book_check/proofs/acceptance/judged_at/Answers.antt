@@ -12,7 +12,7 @@ use Rattle.book_check.specs.Passes.{IsBookVerdict}
 use Rattle.book_check.proofs.acceptance.judged_at.Goals as goal
 
 pub judged_book-requires-clause-kept : goal.judged_book-requires-clause-kept
-judged_book-requires-clause-kept c = at_some c.args.cursor c.requires.0 c.requires.1
+judged_book-requires-clause-kept c = at_some c.args.cursor c.requires.book.0 c.requires.book.1
 
 pub returns-clause-verdict : goal.returns-clause-verdict
 returns-clause-verdict c = λ book at.

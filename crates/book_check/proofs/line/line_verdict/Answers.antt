@@ -14,7 +14,6 @@ use Rattle.effects.specs.Parts.{StmtP}
 use Rattle.book_check.specs.Parts.{places}
 use Rattle.book_check.specs.Walks.{IsWalkEnd}
 use Rattle.book_check.proofs.Admissible.{cond_is}
-use Rattle.book_check.proofs.LineLemmas.{overs_below}
 use Rattle.std.proofs.lemmas.Result.{err_from_is_err_and}
 use Rattle.book_check.specs.Nearness.{steps_near, AreOwnNear}
 use Rattle.book_check.proofs.WalkLemmas.{near_nodes}
@@ -64,13 +63,11 @@ returns-then-not-branch-2-clause-verdict g c =
     let tabled = subst (λ z. IsTabled z (tree_numbered (slice_get (judge_table j) c.args.line.now.number))) c.rel-rel.ensures
     (subst (λ t. IsTabled c.rel-rel.result.now t) c.tree_or-tree.ensures.tree (c.is_tabled.ensures.0 c.if-not-is_tabled.false)) in
     let under = subst (λ ps. IsUnder ps (V c.args.line.now.node) (V c.args.line.now.number)) c.as_slice-required.ensures.value (c.in_ok-is_under.ensures.under.0 c.if-not-branch.false) in
-    let steps = (subst (λ e. IsWalkEnd (IsStep P (judge_rel j) V A) xs 0 e) c.in-Good.is c.in_ok-walk_node.ensures.end).0 in
-    let overs = overs_below P c.args.over.now c.requires.overriders c.args.steps.now.method c.of.result.now (judge_rel j c.args.steps.now.method) c.rel-rel.result.now method.requires_ c.as_slice-required.result.now A (V c.args.line.now.number)
-    c.of.ensures c.rel-rel.ensures c.as_slice-required.ensures.value in (
-      c.m-2.view_is,
+    let steps = (subst (λ e. IsWalkEnd (IsStep P (judge_rel j) V A) xs 0 e) c.in-Good.is c.in_ok-walk_node.ensures.end).0 in (
+      c.m.view_is,
       tabled,
       record { under = under; steps = steps },
-      (λ below. both_ways c.in_ok-are_under_in.field-0 c.if-not-branch-2.true (c.in_ok-are_under_in.ensures.under.1 (overs.1 below))),
+      (λ below. both_ways c.in_ok-are_overs_under.field-0 c.if-not-branch-2.true (c.in_ok-are_overs_under.ensures.under.1 below)),
     )
 
 pub returns-then-not-is_bounded-clause-verdict : goal.returns-then-not-is_bounded-clause-verdict
@@ -86,16 +83,14 @@ returns-then-not-is_bounded-clause-verdict g c =
     (subst (λ t. IsTabled c.rel-rel.result.now t) c.tree_or-tree.ensures.tree (c.is_tabled.ensures.0 c.if-not-is_tabled.false)) in
     let under = subst (λ ps. IsUnder ps (V c.args.line.now.node) (V c.args.line.now.number)) c.as_slice-required.ensures.value (c.in_ok-is_under.ensures.under.0 c.if-not-branch.false) in
     let steps = (subst (λ e. IsWalkEnd (IsStep P (judge_rel j) V A) xs 0 e) c.in-Good.is c.in_ok-walk_node.ensures.end).0 in
-    let overs = overs_below P c.args.over.now c.requires.overriders c.args.steps.now.method c.of.result.now (judge_rel j c.args.steps.now.method) c.rel-rel.result.now method.requires_ c.as_slice-required.result.now A (V c.args.line.now.number)
-    c.of.ensures c.rel-rel.ensures c.as_slice-required.ensures.value in
     let tree = slice_get (judge_table j) c.args.line.now.number in
     let limit = declared_bound method.annotated in
     let held = has_path method.requires_ in
     let same = ap (λ t. below_of (value_of t held) limit) c.tree_or-tree.ensures.tree ∙ ap (λ b. below_of b limit) (sym (cond_is tree held)) in (
-      c.m-2.view_is,
+      c.m.view_is,
       tabled,
       record { under = under; steps = steps },
-      overs.0 (c.in_ok-are_under_in.ensures.under.0 c.if-not-branch-2.false),
+      c.in_ok-are_overs_under.ensures.under.0 c.if-not-branch-2.false,
       (λ bounded. both_ways c.is_bounded.result c.if-not-is_bounded.true (c.is_bounded.ensures ∙ same ∙ bounded)),
     )
 
@@ -112,8 +107,6 @@ returns-clause-verdict g c =
     (subst (λ t. IsTabled c.rel-rel.result.now t) c.tree_or-tree.ensures.tree (c.is_tabled.ensures.0 c.if-not-is_tabled.false)) in
     let under = subst (λ ps. IsUnder ps (V c.args.line.now.node) (V c.args.line.now.number)) c.as_slice-required.ensures.value (c.in_ok-is_under.ensures.under.0 c.if-not-branch.false) in
     let steps = (subst (λ e. IsWalkEnd (IsStep P (judge_rel j) V A) xs 0 e) c.in-Good.is c.in_ok-walk_node.ensures.end).0 in
-    let overs = overs_below P c.args.over.now c.requires.overriders c.args.steps.now.method c.of.result.now (judge_rel j c.args.steps.now.method) c.rel-rel.result.now method.requires_ c.as_slice-required.result.now A (V c.args.line.now.number)
-    c.of.ensures c.rel-rel.ensures c.as_slice-required.ensures.value in
     let tree = slice_get (judge_table j) c.args.line.now.number in
     let limit = declared_bound method.annotated in
     let held = has_path method.requires_ in
@@ -121,7 +114,7 @@ returns-clause-verdict g c =
     record {
       tabled = tabled;
       stepped = record { under = under; steps = steps };
-      overrides = overs.0 (c.in_ok-are_under_in.ensures.under.0 c.if-not-branch-2.false);
+      overrides = c.in_ok-are_overs_under.ensures.under.0 c.if-not-branch-2.false;
       bounded = sym same ∙ sym c.is_bounded.ensures ∙ c.if-not-is_bounded.false;
     }
 

@@ -3,6 +3,7 @@ use Rattle.std.proofs.Common.{arith, [], drop, sym, ◌∙◌, ap, subst}
 use Rattle.core_program.specs.Views.{method_of}
 use Rattle.book_check.specs.Judges.{judge_program, judge_table}
 use Rattle.book_check.specs.Passes.{AreGoodLines}
+use Rattle.book_check.proofs.OverLemmas.{first_overs}
 use Rattle.book_check.proofs.PassLemmas.{LinesSoFar, first_near, line_more, line_wrong, method_front, methods_end}
 use Rattle.book_check.proofs.passes.lines.Goals as goal
 
@@ -38,3 +39,10 @@ pub returns-in-Err-clause-near : goal.returns-in-Err-clause-near
 returns-in-Err-clause-near g c = λ own near.
     let j = c.args.judge.now in
     c.in-Err.ensures.near own (first_near j (judge_table j) (g.L.Lines.lines c.args.from) (g.L.Lines.lines c.methods.ahead) c.methods.m c.methods.invariant.so_far near)
+
+pub next_verdict-requires-clause-overs : goal.next_verdict-requires-clause-overs
+next_verdict-requires-clause-overs g c =
+    let j = c.args.judge.now in
+    let inv = c.methods.invariant in
+    let front = method_front (judge_program j).methods c.methods.m c.methods.rest.now c.in-Some.others.now c.in-Some.method.now inv.methods c.in-Some.ensures.cases.0 in
+    first_overs j (g.L.Lines.lines c.args.from) (g.L.Lines.lines c.methods.ahead) c.methods.m (method_of c.in-Some.method.now) c.args.over.now inv.so_far front.here c.requires.overs
