@@ -1,5 +1,5 @@
 -- How many leaves there are, and what is left behind work.
-use Rattle.std.proofs.Common.{◌≡◌, ℕ, zero, suc, ◌+◌, ◌*◌, ◌-◌, ◌≤◌, ◌<◌, MatchOption, Bool, true, false, ◌&&◌, List, [], ◌∷◌, slice_get, Option, Some, None, Result, Ok, Err, IfErr, if◌then◌else◌, refl, sym, ◌∙◌, ap, arith}
+use Rattle.std.proofs.Common.{◌≡◌, ℕ, zero, suc, ◌+◌, ◌*◌, ◌-◌, ◌≤◌, ◌<◌, MatchOption, Bool, true, false, ◌&&◌, List, [], ◌∷◌, slice_get, Option, Some, None, Result, Ok, Err, IfErr, if◌then◌else◌, refl, ◌∙◌, ap, arith}
 use Rattle.std.specs.Prelude.{◌≢◌}
 use Rattle.std.proofs.lemmas.Nat.{mul-le}
 use Rattle.std.specs.List.{list_all}
@@ -88,11 +88,6 @@ chosen false n own some =
 -- the value of a rule has more leaves than its premises' trees
 more_value : (part : Part) (n : ℕ) → n + 1 ≤ value_work part n
 more_value part n = chosen (makes_tree part) n (own_leaves part) (some_own part)
-
--- where pairs are told
-pub value_pairs : (part : Part) (n own all : ℕ) → makes_tree part ≡ false → own ≡ own_leaves part → all ≡ n + own → value_work part n ≡ all * all
-value_pairs part n own all is same sum =
-    ap (λ b. if b then doubled n else ((n + own_leaves part) * (n + own_leaves part))) is ∙ ap (λ k. (n + k) * (n + k)) (sym same) ∙ ap (λ k. k * k) (sym sum)
 
 module _ (table : List Cond) (part : Part) (n : ℕ) (ds : Nodes) (most : ℕ) where
   pub step_large : most < leaves_numbered table n → most < step_work table part n ds
