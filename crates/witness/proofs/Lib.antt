@@ -3,9 +3,10 @@ pub mod WalkLemmas
 pub mod ClosedSets
 -- An accepted program has no witness.
 pub mod Theorem
--- Lemmas on tables of counts, on ends, on nodes, on the search, and on verdicts.
+-- Lemmas on tables of counts, on ends, on nodes, on the search, on verdicts, and on what they tell.
 pub mod GoalLemmas
 pub mod NodeLemmas
 pub mod SearchLemmas
 pub mod TableLemmas
 pub mod VerdictLemmas
+pub mod SenseLemmas

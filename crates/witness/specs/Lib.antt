@@ -7,3 +7,5 @@ pub mod Judging
 pub mod Nodes
 pub mod Searching
 pub mod Verdicts
+-- What the search for a witness answers.
+pub mod Findings

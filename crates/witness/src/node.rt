@@ -63,7 +63,7 @@ fn may_step(busy: Option<u32>, thread: u32) -> bool
 }
 
 /// Whether the thread of this number stands inside an atomic call.
-fn is_inside(machine: &Machine<'_>, thread: u32) -> bool
+pub(crate) fn is_inside(machine: &Machine<'_>, thread: u32) -> bool
     ensures { (q : State) → StandsFor machine.now q → result ≡ inside (program_run machine.now) q thread }
 {
     match machine.inside(thread) {
