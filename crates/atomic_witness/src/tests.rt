@@ -11,7 +11,7 @@ const RACE: &str =
     "class Cell { int v; atomic void add() { this.v = this.v + 1; } } class Worker implements Runnable { final Cell cell; Worker(Cell cell) { this.cell = cell; } public void run() { this.cell.add(); } } class Main { void main() { final Cell cell = new Cell(); new Thread(new Worker(cell)).start(); new Thread(new Worker(cell)).start(); } }";
 
 /// What is written for words that ask for nothing.
-const USAGE: &str = "usage: atomic_witness FILE SCHEDULE\n";
+const USAGE: &str = "usage: atomic_witness FILE [SCHEDULE]\n";
 
 /// Schedules of the race, each with its status and text. The second one leaves what one worker alone would leave, too: so no order of its
 /// entries leaves that, but another schedule does.
@@ -30,9 +30,24 @@ static JUDGED: [(&str, u8, &str); 5] = [
 /// Words, each with its status and text, where the file `a` is the race and there is no other.
 static ASKED: [(&[&str], u8, &str); 4] = [
     (&[], 9, USAGE),
-    (&["a"], 9, USAGE),
     (&["a", "s", "s"], 9, USAGE),
     (&["b", "s"], 6, "cannot read b\n"),
+    (&["b"], 6, "cannot read b\n"),
+];
+
+/// Sources, each with what is found in it: the race; two workers that take a lock; what is no source.
+static SOUGHT: [(&str, u8, &str); 3] = [
+    (
+        RACE,
+        2,
+        "0*10 1*7 2*12 1*5\n# broken: no order of its entries that interrupts no atomic call leaves this\n",
+    ),
+    (
+        "class Cell { int v guarded_by this; atomic void add() { synchronized (this) { this.v = this.v + 1; } } } class Worker implements Runnable { final Cell cell; Worker(Cell cell) { this.cell = cell; } public void run() { this.cell.add(); } } class Main { void main() { final Cell cell = new Cell(); new Thread(new Worker(cell)).start(); new Thread(new Worker(cell)).start(); } }",
+        16,
+        "no witness found: 50 schedules were tried\n",
+    ),
+    ("class", 1, "refused at 1:6: unexpected\n"),
 ];
 
 /// The status and the text of the words, where the files `a` and `s` have these bytes.
@@ -81,6 +96,16 @@ fn expect(
 fn schedules_are_judged(rt: HostRuntime) -> Result<(), Fail> {
     for (schedule, status, text) in &JUDGED {
         expect(&rt, rt.alloc(), &["a", "s"], schedule, *status, text)?;
+    }
+    Ok(())
+}
+
+#[test]
+fn witnesses_are_sought(rt: HostRuntime) -> Result<(), Fail> {
+    for (source, status, text) in &SOUGHT {
+        let given = answer(rt.alloc(), &["a"], source, "0")?;
+        assert_eq!(rt; given.0, *status);
+        assert_eq!(rt; given.1.as_slice(), text.as_bytes());
     }
     Ok(())
 }

@@ -1,5 +1,5 @@
--- When it ends how.
-use Rattle.std.proofs.Common.{◌≡◌, ℕ, ◌<◌, ◌≤◌, List, Bool, true, false, is_some, length, refl, sym, ap, subst, ◌∙◌, arith, inl, inr, ◌⊎◌}
+-- When it ends how, where a schedule is given.
+use Rattle.std.proofs.Common.{◌≡◌, ℕ, ◌<◌, ◌≤◌, List, Some, Bool, true, false, is_some, length, refl, sym, ap, subst, ◌∙◌, arith, inl, inr, ◌⊎◌}
 use Rattle.std.proofs.lemmas.Option.{same_Some}
 use Rattle.lexer.specs.Limits.{longest_source}
 use Rattle.sources.specs.Limits.{longest_second_file}
@@ -17,9 +17,9 @@ use Rattle.sources.proofs.Apart.{no_source_is_none, no_source_ends}
 use Rattle.semantics.specs.Run.{Runs, open_thread}
 use Rattle.schedule_commands.specs.Schedules.{NoOrder, no_run, open_call, HasInput, IsWellFormedText, IsNoSchedule, LeavesCallOpen, EndsOutside}
 use Rattle.schedule_commands.proofs.ScheduleEndings.{runs_to, inputs_apart, no_source_input, no_schedule_input, refused_text, refused_run}
-use Rattle.witness_commands.specs.Answers.{RefusesInput, no_source, no_schedule, no_end, IsToldOfSchedule, kept, broken, undecided, WitnessAnswer, refused, told, IsKeptEnd, IsWitnessOf}
-use Rattle.witness_commands.specs.Reading.{AreBothWithin}
-use Rattle.witness_commands.specs.Written.{BelongsToFiles, source_large, schedule_large, answered, Decides, IsExact}
+use Rattle.witness_commands.specs.Answers.{RefusesInput, no_source, no_schedule, no_end, IsToldOfSchedule, kept, broken, undecided, AnswersSchedule, refused, told, IsKeptEnd, IsWitnessOf}
+use Rattle.witness_commands.specs.Reading.{AreWithin}
+use Rattle.witness_commands.specs.Written.{Decides, IsExactVerdict}
 
 -- a witness in any sense is one by objects and output
 pub witness_of : (P : Program) (s : List ℕ) (by : Compared) (full : Bool) → IsShown P s by full → IsWitnessOf P s
@@ -67,39 +67,39 @@ kept_or_witness P s k w =
 
 -- Statuses and facts.
 
-never : (result status : ℕ) (fact : Type 0) → (result ≡ status → ⊥) → (fact → ⊥) → Exactly result status fact
+pub never : (result status : ℕ) (fact : Type 0) → (result ≡ status → ⊥) → (fact → ⊥) → Exactly result status fact
 never result status fact other not = record { only = λ e. absurd (other e); all = λ f. absurd (not f) }
 
-exactly : (status : ℕ) (fact : Type 0) → fact → Exactly status status fact
+pub exactly : (status : ℕ) (fact : Type 0) → fact → Exactly status status fact
 exactly status fact f = record { only = λ e. f; all = λ g. inl refl }
 
-undone : (result status : ℕ) (fact : Type 0) → (result ≡ status → ⊥) → (fact → ⊥) → Decides result status fact
+pub undone : (result status : ℕ) (fact : Type 0) → (result ≡ status → ⊥) → (fact → ⊥) → Decides result status fact
 undone result status fact other not = record { only = λ e. absurd (other e); all = λ f. absurd (not f) }
 
-decided : (status : ℕ) (fact : Type 0) → fact → Decides status status fact
+pub decided : (status : ℕ) (fact : Type 0) → fact → Decides status status fact
 decided status fact f = record { only = λ e. f; all = λ g. inl refl }
 
-open_end : (status : ℕ) (fact : Type 0) → (16 ≡ status → ⊥) → Decides 16 status fact
+pub open_end : (status : ℕ) (fact : Type 0) → (16 ≡ status → ⊥) → Decides 16 status fact
 open_end status fact other = record { only = λ e. absurd (other e); all = λ g. inr (inl refl) }
 
-both_over : (file text : List ℕ) → (longest_source < length file) ⊎ (longest_second_file < length text) → AreBothWithin file text → ⊥
+both_over : (file text : List ℕ) → (longest_source < length file) ⊎ (longest_second_file < length text) → AreWithin file (Some text) → ⊥
 both_over file text (inl over) within = omega (arith, over, within.0)
-both_over file text (inr over) within = omega (arith, over, within.1)
+both_over file text (inr over) within = let short : length text ≤ longest_second_file = within.1 in omega (arith, over, short)
 
-module _ (file text : List ℕ) (within : AreBothWithin file text) where
+module _ (file text : List ℕ) (within : AreWithin file (Some text)) where
   large : (status : ℕ) → (status ≡ 10 → ⊥) → Exactly status 10 ((longest_source < length file) ⊎ (longest_second_file < length text))
   large status other = never status 10 _ other (λ over. both_over file text over within)
 
-  no_input : (F : Program → List ℕ → Type 0) → IsNotWellFormed file → AreBothWithin file text × HasInput file text F → ⊥
+  no_input : (F : Program → List ℕ → Type 0) → IsNotWellFormed file → AreWithin file (Some text) × HasInput file text F → ⊥
   no_input F none h = no_source_input file text F h.1 none
 
-  no_text : (F : Program → List ℕ → Type 0) → IsNoSchedule text → AreBothWithin file text × HasInput file text F → ⊥
+  no_text : (F : Program → List ℕ → Type 0) → IsNoSchedule text → AreWithin file (Some text) × HasInput file text F → ⊥
   no_text F none h = no_schedule_input file text F h.1 none
 
-  apart : (F G : Program → List ℕ → Type 0) → ((P : Program) (s : List ℕ) → F P s → G P s → ⊥) → HasInput file text F → AreBothWithin file text × HasInput file text G → ⊥
+  apart : (F G : Program → List ℕ → Type 0) → ((P : Program) (s : List ℕ) → F P s → G P s → ⊥) → HasInput file text F → AreWithin file (Some text) × HasInput file text G → ⊥
   apart F G not f g = inputs_apart file text F G not f g.1
 
-  exact_refused : IsNotWellFormed file → IsExact file text 1
+  exact_refused : IsNotWellFormed file → IsExactVerdict file text 1
   exact_refused f = record {
     too_large = large 1 (λ e. omega (arith, e));
     refused = exactly 1 _ (within, f);
@@ -111,7 +111,7 @@ module _ (file text : List ℕ) (within : AreBothWithin file text) where
     undecided = λ e. absurd (omega (arith, e));
   }
 
-  exact_no_schedule : IsWellFormedText file → IsNoSchedule text → IsExact file text 3
+  exact_no_schedule : IsWellFormedText file → IsNoSchedule text → IsExactVerdict file text 3
   exact_no_schedule source f = record {
     too_large = large 3 (λ e. omega (arith, e));
     refused = never 3 1 _ (λ e. omega (arith, e)) (λ g. g.1 source.0 source.1 source.2);
@@ -124,13 +124,13 @@ module _ (file text : List ℕ) (within : AreBothWithin file text) where
   }
 
   -- of a source and a schedule: it is neither refused nor the text of none
-  not_refused : (status : ℕ) (F : Program → List ℕ → Type 0) → HasInput file text F → (status ≡ 1 → ⊥) → Exactly status 1 (AreBothWithin file text × IsNotWellFormed file)
+  not_refused : (status : ℕ) (F : Program → List ℕ → Type 0) → HasInput file text F → (status ≡ 1 → ⊥) → Exactly status 1 (AreWithin file (Some text) × IsNotWellFormed file)
   not_refused status F h other = never status 1 _ other (λ g. no_source_input file text F h g.1)
 
-  is_schedule : (status : ℕ) (F : Program → List ℕ → Type 0) → HasInput file text F → (status ≡ 3 → ⊥) → Exactly status 3 (AreBothWithin file text × IsWellFormedText file × IsNoSchedule text)
+  is_schedule : (status : ℕ) (F : Program → List ℕ → Type 0) → HasInput file text F → (status ≡ 3 → ⊥) → Exactly status 3 (AreWithin file (Some text) × IsWellFormedText file × IsNoSchedule text)
   is_schedule status F h other = never status 3 _ other (λ g. no_schedule_input file text F h g.2)
 
-  exact_stopped : HasInput file text IsStuck → IsExact file text 4
+  exact_stopped : HasInput file text IsStuck → IsExactVerdict file text 4
   exact_stopped f = record {
     too_large = large 4 (λ e. omega (arith, e));
     refused = not_refused 4 IsStuck f (λ e. omega (arith, e));
@@ -142,7 +142,7 @@ module _ (file text : List ℕ) (within : AreBothWithin file text) where
     undecided = λ e. absurd (omega (arith, e));
   }
 
-  exact_inside : HasInput file text LeavesCallOpen → IsExact file text 5
+  exact_inside : HasInput file text LeavesCallOpen → IsExactVerdict file text 5
   exact_inside f = record {
     too_large = large 5 (λ e. omega (arith, e));
     refused = not_refused 5 LeavesCallOpen f (λ e. omega (arith, e));
@@ -156,14 +156,14 @@ module _ (file text : List ℕ) (within : AreBothWithin file text) where
 
   -- of a schedule that ends with no thread inside an atomic call: it doesn't stop, nor end inside
   runs_whole : (status : ℕ) (F : Program → List ℕ → Type 0) → ((P : Program) (s : List ℕ) → F P s → EndsOutside P s) → HasInput file text F → (status ≡ 4 → ⊥)
-      → Exactly status 4 (AreBothWithin file text × HasInput file text IsStuck)
+      → Exactly status 4 (AreWithin file (Some text) × HasInput file text IsStuck)
   runs_whole status F out h other = never status 4 _ other (apart F IsStuck (λ P s a b. stuck_or_outside P s b (out P s a)) h)
 
   ends_outside : (status : ℕ) (F : Program → List ℕ → Type 0) → ((P : Program) (s : List ℕ) → F P s → EndsOutside P s) → HasInput file text F → (status ≡ 5 → ⊥)
-      → Exactly status 5 (AreBothWithin file text × HasInput file text LeavesCallOpen)
+      → Exactly status 5 (AreWithin file (Some text) × HasInput file text LeavesCallOpen)
   ends_outside status F out h other = never status 5 _ other (apart F LeavesCallOpen (λ P s a b. inside_or_outside P s b (out P s a)) h)
 
-  exact_kept : HasInput file text IsKeptEnd → IsExact file text 0
+  exact_kept : HasInput file text IsKeptEnd → IsExactVerdict file text 0
   exact_kept f = record {
     too_large = large 0 (λ e. omega (arith, e));
     refused = not_refused 0 IsKeptEnd f (λ e. omega (arith, e));
@@ -175,7 +175,7 @@ module _ (file text : List ℕ) (within : AreBothWithin file text) where
     undecided = λ e. absurd (omega (arith, e));
   }
 
-  exact_broken : HasInput file text IsWitnessOf → IsExact file text 2
+  exact_broken : HasInput file text IsWitnessOf → IsExactVerdict file text 2
   exact_broken f = record {
     too_large = large 2 (λ e. omega (arith, e));
     refused = not_refused 2 IsWitnessOf f (λ e. omega (arith, e));
@@ -187,7 +187,7 @@ module _ (file text : List ℕ) (within : AreBothWithin file text) where
     undecided = λ e. absurd (omega (arith, e));
   }
 
-  exact_undecided : HasInput file text EndsOutside → IsExact file text 16
+  exact_undecided : HasInput file text EndsOutside → IsExactVerdict file text 16
   exact_undecided f = record {
     too_large = large 16 (λ e. omega (arith, e));
     refused = not_refused 16 EndsOutside f (λ e. omega (arith, e));
@@ -200,23 +200,23 @@ module _ (file text : List ℕ) (within : AreBothWithin file text) where
   }
 
   exact_end : (ended : Ending) (line : List ℕ) (P : Program) (s : List ℕ)
-      → NoOrder P s ended line → ((G : Program → List ℕ → Type 0) → G P s → HasInput file text G) → IsExact file text (code_of ended)
+      → NoOrder P s ended line → ((G : Program → List ℕ → Type 0) → G P s → HasInput file text G) → IsExactVerdict file text (code_of ended)
   exact_end _ _ P s (no_run {ending = ended} {line = line} is) input =
-      let r = refused_run P s ended line is in subst (λ e. IsExact file text (code_of e)) (sym r.0) (exact_stopped (input IsStuck r.1))
+      let r = refused_run P s ended line is in subst (λ e. IsExactVerdict file text (code_of e)) (sym r.0) (exact_stopped (input IsStuck r.1))
   exact_end _ _ P s (open_call q t e stands) input = exact_inside (input LeavesCallOpen (q, e, ap is_some stands))
 
-  exact_refuses : (ended : Ending) (line : List ℕ) → RefusesInput file text ended line → IsExact file text (code_of ended)
-  exact_refuses _ _ (no_source {ending = ended} {line = line} is) = subst (λ e. IsExact file text (code_of e)) (sym (no_source_ends file ended line is)) (exact_refused (no_source_is_none file ended line is))
+  exact_refuses : (ended : Ending) (line : List ℕ) → RefusesInput file text ended line → IsExactVerdict file text (code_of ended)
+  exact_refuses _ _ (no_source {ending = ended} {line = line} is) = subst (λ e. IsExactVerdict file text (code_of e)) (sym (no_source_ends file ended line is)) (exact_refused (no_source_is_none file ended line is))
   exact_refuses _ _ (no_schedule {ending = ended} {line = line} tree P source is) =
-      let r = refused_text text ended line is in subst (λ e. IsExact file text (code_of e)) (sym r.0) (exact_no_schedule (tree, P, source) r.1)
+      let r = refused_text text ended line is in subst (λ e. IsExactVerdict file text (code_of e)) (sym r.0) (exact_no_schedule (tree, P, source) r.1)
   exact_refuses _ _ (no_end {ending = ended} {line = line} tree P s input is) = exact_end ended line P s is (λ G g. (tree, P, s, input, g))
 
-  exact_told : (P : Program) (s : List ℕ) (status : ℕ) (out : List ℕ) → IsToldOfSchedule P s status out → ((G : Program → List ℕ → Type 0) → G P s → HasInput file text G) → IsExact file text status
+  exact_told : (P : Program) (s : List ℕ) (status : ℕ) (out : List ℕ) → IsToldOfSchedule P s status out → ((G : Program → List ℕ → Type 0) → G P s → HasInput file text G) → IsExactVerdict file text status
   exact_told P s _ _ (kept q r ends order spells) input = exact_kept (input IsKeptEnd (q, ends, (r, order)))
   exact_told P s _ _ (broken by full is none) input = exact_broken (input IsWitnessOf (witness_of P s by full is))
   exact_told P s _ _ (undecided q ends) input = exact_undecided (input EndsOutside (q, ends.runs, ends.closed))
 
-  exact_answered : (status : ℕ) (out : List ℕ) → WitnessAnswer file text status out → IsExact file text status
+  pub exact_answered : (status : ℕ) (out : List ℕ) → AnswersSchedule file text status out → IsExactVerdict file text status
   exact_answered _ _ (refused {ending = ended} {line = line} is) = exact_refuses ended line is
   exact_answered _ _ (told {status = status} {out = out} tree P s input is) = exact_told P s status out is (λ G g. (tree, P, s, input, g))
 
@@ -246,11 +246,11 @@ told_apart P s _ _ (kept q r ends order spells) between = omega (arith, between.
 told_apart P s _ _ (broken by full is none) between = omega (arith, between.0)
 told_apart P s _ _ (undecided q ends) between = omega (arith, between.1)
 
-pub not_between : (file text : List ℕ) (status : ℕ) (out : List ℕ) → WitnessAnswer file text status out → (6 ≤ status) × (status ≤ 10) → ⊥
-not_between file text _ _ (refused {ending = ended} {line = line} is) between = let low = refuses_low file text ended line is in omega (arith, low, between.0)
-not_between file text _ _ (told {status = status} {out = out} tree P s input is) between = told_apart P s status out is between
+pub verdict_between : (file text : List ℕ) (status : ℕ) (out : List ℕ) → AnswersSchedule file text status out → (6 ≤ status) × (status ≤ 10) → ⊥
+verdict_between file text _ _ (refused {ending = ended} {line = line} is) between = let low = refuses_low file text ended line is in omega (arith, low, between.0)
+verdict_between file text _ _ (told {status = status} {out = out} tree P s input is) between = told_apart P s status out is between
 
-exact_over : (file text : List ℕ) → (longest_source < length file) ⊎ (longest_second_file < length text) → IsExact file text 10
+pub exact_over : (file text : List ℕ) → (longest_source < length file) ⊎ (longest_second_file < length text) → IsExactVerdict file text 10
 exact_over file text over = record {
   too_large = exactly 10 _ over;
   refused = never 10 1 _ (λ e. omega (arith, e)) (λ g. both_over file text over g.0);
@@ -262,19 +262,14 @@ exact_over file text over = record {
   undecided = λ e. absurd (omega (arith, e));
 }
 
-pub exact_answer : (source schedule file text : List ℕ) (status : ℕ) (out : List ℕ) → BelongsToFiles source schedule file text status out → IsExact file text status
-exact_answer source schedule file text _ _ (source_large over) = exact_over file text (inl over)
-exact_answer source schedule file text _ _ (schedule_large small over) = exact_over file text (inr over)
-exact_answer source schedule file text _ _ (answered {status = status} {out = out} within is) = exact_answered file text within status out is
-
-yields_other : (result status : ℕ) (fact : Type 0) → IsTroubleStatus result → ((6 ≤ status) × (status ≤ 8) → ⊥) → Exactly result status fact
+pub yields_other : (result status : ℕ) (fact : Type 0) → IsTroubleStatus result → ((6 ≤ status) × (status ≤ 8) → ⊥) → Exactly result status fact
 yields_other result status fact y out = record { only = λ e. absurd (out (subst (λ n. (6 ≤ n) × (n ≤ 8)) e (yield_range result y))); all = λ f. inr y }
 
-yields_undone : (result status : ℕ) (fact : Type 0) → IsTroubleStatus result → ((6 ≤ status) × (status ≤ 8) → ⊥) → Decides result status fact
+pub yields_undone : (result status : ℕ) (fact : Type 0) → IsTroubleStatus result → ((6 ≤ status) × (status ≤ 8) → ⊥) → Decides result status fact
 yields_undone result status fact y out = record { only = λ e. absurd (out (subst (λ n. (6 ≤ n) × (n ≤ 8)) e (yield_range result y))); all = λ f. inr (inr y) }
 
-pub exact_yield : (file text : List ℕ) (result : ℕ) → IsTroubleStatus result → IsExact file text result
-exact_yield file text result y = record {
+pub verdict_yield : (file text : List ℕ) (result : ℕ) → IsTroubleStatus result → IsExactVerdict file text result
+verdict_yield file text result y = record {
   too_large = yields_other result 10 _ y (λ r. omega (arith, r.1));
   refused = yields_other result 1 _ y (λ r. omega (arith, r.0));
   no_schedule = yields_other result 3 _ y (λ r. omega (arith, r.0));

@@ -1,4 +1,4 @@
--- What is known of the files, from how the two readings ended.
+-- What is known of the files, from how their readings ended.
 use Rattle.std.proofs.Common.{◌≡◌, ◌≢◌, ◌<◌, ◌≤◌, ℕ, List, Option, Some, None, IfSome, IsSome, length, refl, sym, subst, ◌∙◌}
 use Rattle.lexer.specs.Limits.{longest_source}
 use Rattle.sources.specs.Limits.{longest_second_file}
@@ -7,7 +7,7 @@ use Rattle.edge.specs.declared.transfer.ReadEnd.{ReadEnd}
 use Rattle.edge.specs.declared.transfer.ReadEnd.TheVariants.{Fault, TooLarge, NoMemory}
 use Rattle.edge.specs.Faults.{Rose}
 use Rattle.witness_commands.specs.Outcomes.{IsWitnessOutcome, IsUnreadLine, unread, over}
-use Rattle.witness_commands.specs.Reading.{AreBytesOf, AreBothRead, IsSourceWithin, IsFirstOfTwoUnread, IsFirstOfTwoOver, source_unread, schedule_unread, source_over, schedule_over}
+use Rattle.witness_commands.specs.Reading.{AreBytesOf, AreRead, IsSourceWithin, IsFirstUnread, IsFirstOver, source_unread, schedule_unread, source_over, schedule_over}
 
 -- What the reading of a file of this name says at its end.
 pub record Ends (told : List ℕ → Option (List ℕ)) (before now : List ℕ → ℕ) (limit : ℕ) (name : List ℕ) (end : ReadEnd) : Type 0 where
@@ -26,9 +26,9 @@ earlier told after before mid now limit name end same calm e = record {
   calm = λ is other. e.calm is other ∙ calm other;
 }
 
-module _ (told : List ℕ → Option (List ℕ)) (before now : List ℕ → ℕ) (source schedule : List ℕ) where
+module _ (told : List ℕ → Option (List ℕ)) (before now : List ℕ → ℕ) (source : List ℕ) (schedule : Option (List ℕ)) where
   line_of : (limit : ℕ) (name : List ℕ) (end : ReadEnd) (status : ℕ) (line : List ℕ) → Ends told before now limit name end
-      → (IsUnread told before now name → IsFirstOfTwoUnread told before now source schedule name) → (IsOver told before now limit name → IsFirstOfTwoOver told before now source schedule name)
+      → (IsUnread told before now name → IsFirstUnread told before now source schedule name) → (IsOver told before now limit name → IsFirstOver told before now source schedule name)
       → IsUnreadLine name end status line → IsWitnessOutcome source schedule told before now status line
   line_of limit name Fault status line e first large says =
       subst (λ n. IsWitnessOutcome source schedule told before now n line) (sym says.0) (subst (IsWitnessOutcome source schedule told before now 6) (sym says.1)
@@ -42,10 +42,11 @@ module _ (told : List ℕ → Option (List ℕ)) (before now : List ℕ → ℕ)
   pub source_ends : (end : ReadEnd) (status : ℕ) (line : List ℕ) → Ends told before now longest_source source end → IsUnreadLine source end status line → IsWitnessOutcome source schedule told before now status line
   source_ends end status line e says = line_of longest_source source end status line e (λ is. source_unread is) (λ is. source_over is) says
 
-  -- the source was read, and the schedule wasn't
-  pub schedule_ends : IsSourceWithin told source → (end : ReadEnd) (status : ℕ) (line : List ℕ) → Ends told before now longest_second_file schedule end → IsUnreadLine schedule end status line
+  -- the source was read, and the schedule of this name wasn't
+  pub schedule_ends : (name : List ℕ) → schedule ≡ Some name → IsSourceWithin told source → (end : ReadEnd) (status : ℕ) (line : List ℕ) → Ends told before now longest_second_file name end → IsUnreadLine name end status line
       → IsWitnessOutcome source schedule told before now status line
-  schedule_ends within end status line e says = line_of longest_second_file schedule end status line e (λ is. schedule_unread within is) (λ is. schedule_over within is) says
+  schedule_ends name named within end status line e says =
+      line_of longest_second_file name end status line e (λ is. schedule_unread name named within is) (λ is. schedule_over name named within is) says
 
 -- what is told of a file that was read is within the limit
 pub told_within : (o : Option (List ℕ)) (bytes : List ℕ) (limit : ℕ) → IfSome o (λ file. bytes ≡ file) → length bytes ≤ limit → IfSome o (λ file. length file ≤ limit)
@@ -54,10 +55,15 @@ told_within (Some file) bytes limit is within = subst (λ b. length b ≤ limit)
 
 -- both files were read
 pub both_read : (told after : List ℕ → Option (List ℕ)) (before mid now : List ℕ → ℕ) (source schedule file text : List ℕ) → ((other : List ℕ) → after other ≡ told other) → HasSameFaults before mid → HasSameFaults mid now
-    → AreBytesOf told source file → AreBytesOf after schedule text → length file ≤ longest_source → length text ≤ longest_second_file → AreBothRead told before now source schedule file text
+    → AreBytesOf told source file → AreBytesOf after schedule text → length file ≤ longest_source → length text ≤ longest_second_file → AreRead told before now source (Some schedule) file (Some text)
 both_read told after before mid now source schedule file text same first second one other small short = record {
   source_is = one;
   schedule_is = subst (λ o. IfSome o (λ bytes. text ≡ bytes)) (same schedule) other;
   within = (small, short);
   quiet = λ name. second name ∙ first name;
 }
+
+-- the source was read, and no schedule is given
+pub source_read : (told : List ℕ → Option (List ℕ)) (before now : List ℕ → ℕ) (source file : List ℕ) → HasSameFaults before now → AreBytesOf told source file → length file ≤ longest_source
+    → AreRead told before now source None file None
+source_read told before now source file calm is small = record { source_is = is; schedule_is = tt; within = (small, tt); quiet = calm }

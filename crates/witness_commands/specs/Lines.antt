@@ -1,6 +1,8 @@
--- The lines that tell of a schedule.
+-- The lines that tell of a schedule, and of a search.
 use Rattle.std.specs.Prelude.{ℕ, List, ◌++◌, Bool, true, false, codes, decimal}
 use Rattle.edge.specs.Lines.{line_end}
+use Rattle.schedule.specs.Comments.{commented}
+use Rattle.schedule.specs.Written.{written}
 use Rattle.witness.specs.declared.goal.Compared.{Compared}
 use Rattle.witness.specs.declared.goal.Compared.TheVariants.{Objects, Output}
 
@@ -19,3 +21,11 @@ broken_by_line by full = codes "broken: " ++ broken_text by full ++ line_end
 -- `not decided: N states were seen`
 abbrev pub undecided_line : ℕ → List ℕ
 undecided_line seen = codes "not decided: " ++ decimal seen ++ codes " states were seen" ++ line_end
+
+-- a witness that was found: the schedule as a text that `run` reads, and behind it, as a comment, in which sense promises are broken
+abbrev pub witness_text : Compared → (full : Bool) → List ℕ → List ℕ
+witness_text by full s = written s ++ commented (broken_by_line by full)
+
+-- `no witness found: N schedules were tried`
+abbrev pub nothing_line : ℕ → List ℕ
+nothing_line tried = codes "no witness found: " ++ decimal tried ++ codes " schedules were tried" ++ line_end

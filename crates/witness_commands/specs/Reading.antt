@@ -1,12 +1,19 @@
--- What is known of the files that are read: the source first, and then the text of the schedule.
-use Rattle.std.specs.Prelude.{◌≡◌, ℕ, ◌≤◌, List, Option, IfSome, length}
+-- What is known of the files that are read: the source first, and then the text of the schedule, where one is given.
+use Rattle.std.specs.Prelude.{◌≡◌, ℕ, ◌≤◌, List, Option, Some, None, IfSome, length}
 use Rattle.lexer.specs.Limits.{longest_source}
 use Rattle.sources.specs.Limits.{longest_second_file}
 use Rattle.sources.specs.Files.{HasSameFaults, IsUnread, IsOver}
 
--- both files have at most as many bytes as they may have
-abbrev pub AreBothWithin : (file text : List ℕ) → Type 0
-AreBothWithin file text = (length file ≤ longest_source) × (length text ≤ longest_second_file)
+-- the files have at most as many bytes as they may have
+abbrev pub AreWithin : (file : List ℕ) → (text : Option (List ℕ)) → Type 0
+AreWithin file text = (length file ≤ longest_source) × IfSome text (λ bytes. length bytes ≤ longest_second_file)
+
+-- this holds of the name of the schedule and of its bytes; or there is neither
+abbrev pub OfSchedule : (List ℕ → List ℕ → Type 0) → (schedule text : Option (List ℕ)) → Type 0
+OfSchedule holds (Some name) (Some text) = holds name text
+OfSchedule holds (Some name) None = ⊥
+OfSchedule holds None (Some text) = ⊥
+OfSchedule holds None None = Unit {0}
 
 module _ (told : List ℕ → Option (List ℕ)) where
   -- where the folder tells the file of this name, these are its bytes
@@ -19,18 +26,18 @@ module _ (told : List ℕ → Option (List ℕ)) where
 
   module _ (before now : List ℕ → ℕ) where
     -- the first of the files that couldn't be read
-    pub data IsFirstOfTwoUnread (source schedule : List ℕ) : List ℕ → Type 0 where
-      source_unread : IsUnread told before now source → IsFirstOfTwoUnread source schedule source
-      schedule_unread : IsSourceWithin source → IsUnread told before now schedule → IsFirstOfTwoUnread source schedule schedule
+    pub data IsFirstUnread (source : List ℕ) (schedule : Option (List ℕ)) : List ℕ → Type 0 where
+      source_unread : IsUnread told before now source → IsFirstUnread source schedule source
+      schedule_unread : (name : List ℕ) → schedule ≡ Some name → IsSourceWithin source → IsUnread told before now name → IsFirstUnread source schedule name
 
     -- the first of the files that has more bytes than it may have
-    pub data IsFirstOfTwoOver (source schedule : List ℕ) : List ℕ → Type 0 where
-      source_over : IsOver told before now longest_source source → IsFirstOfTwoOver source schedule source
-      schedule_over : IsSourceWithin source → IsOver told before now longest_second_file schedule → IsFirstOfTwoOver source schedule schedule
+    pub data IsFirstOver (source : List ℕ) (schedule : Option (List ℕ)) : List ℕ → Type 0 where
+      source_over : IsOver told before now longest_source source → IsFirstOver source schedule source
+      schedule_over : (name : List ℕ) → schedule ≡ Some name → IsSourceWithin source → IsOver told before now longest_second_file name → IsFirstOver source schedule name
 
-    -- both files were read
-    pub record AreBothRead (source schedule file text : List ℕ) : Type 0 where
+    -- the files were read
+    pub record AreRead (source : List ℕ) (schedule : Option (List ℕ)) (file : List ℕ) (text : Option (List ℕ)) : Type 0 where
       pub source_is : AreBytesOf source file
-      pub schedule_is : AreBytesOf schedule text
-      pub within : AreBothWithin file text
+      pub schedule_is : OfSchedule AreBytesOf schedule text
+      pub within : AreWithin file text
       pub quiet : HasSameFaults before now

@@ -1,6 +1,6 @@
 //! What is answered to the bytes of a source and of a schedule.
 
-ghost use Rattle.std.specs.Prelude.{◌≢◌, ◌≤◌, ℕ, List, length, IfOk, MatchResult, string_bytes};
+ghost use Rattle.std.specs.Prelude.{◌≢◌, ◌≤◌, ℕ, List, length, IfOk, MatchResult};
 ghost use Rattle.lexer.specs.Limits.{longest_source};
 ghost use Rattle.sources.specs.Limits.{longest_second_file};
 ghost use Rattle.core_program.specs.Core.{Program};
@@ -11,7 +11,7 @@ ghost use Rattle.schedule_commands.specs.Schedules.{NoOrder};
 ghost use Rattle.sources.specs.Checking.{IsSourceOf};
 ghost use Rattle.sources.specs.Refusals.{IsRight, Tells};
 ghost use Rattle.report.specs.Schedules.{stopped_line, inside_call_line};
-ghost use Rattle.witness_commands.specs.Answers.{IsSaid, RefusesInput, WitnessAnswer, most_states};
+ghost use Rattle.witness_commands.specs.Answers.{IsSaid, RefusesInput, AnswersSchedule, most_states};
 
 use crate::lines::{broken_line, undecided_line};
 use compile::compile;
@@ -31,7 +31,7 @@ const MOST_STATES: u32 = 20_000;
 #[derive(Drop)]
 pub struct Said {
     pub status: u8,
-    pub text: String,
+    pub text: Vec<u8>,
 }
 
 /// The refusal of a schedule that stops so.
@@ -88,20 +88,20 @@ fn verdict_on(alloc: Global, source: &Source, schedule: &[u32]) -> Result<Verdic
 
 /// The status and the text for what is told.
 fn answer_of(alloc: Global, verdict: &Verdict) -> Result<Said, NoMemory>
-    ensures { IfOk result (λ said. IsSaid verdict.now said.status (string_bytes said.text)) }
+    ensures { IfOk result (λ said. IsSaid verdict.now said.status said.text.items) }
 {
     match verdict {
         Verdict::Kept(order) => Ok(Said {
             status: 0,
-            text: write_schedule(alloc, order.as_slice())?,
+            text: write_schedule(alloc, order.as_slice())?.into_bytes(),
         }),
         Verdict::Broken(sense) => Ok(Said {
             status: 2,
-            text: broken_line(alloc, *sense)?,
+            text: broken_line(alloc, *sense)?.into_bytes(),
         }),
         Verdict::Undecided { seen } => Ok(Said {
             status: 16,
-            text: undecided_line(alloc, *seen)?,
+            text: undecided_line(alloc, *seen)?.into_bytes(),
         }),
     }
 }
@@ -111,7 +111,7 @@ fn answered_source(alloc: Global, source: &Source, text: &[u8]) -> Result<Said, 
     requires source { (file : List ℕ) × IsSourceOf file source.now }
     requires text { length text.now ≤ longest_second_file }
     ensures { (file : List ℕ) → IsSourceOf file source.now →
-        MatchResult result (λ said. WitnessAnswer file text.now said.status (string_bytes said.text)) (IsRight (RefusesInput file text.now)) }
+        MatchResult result (λ said. AnswersSchedule file text.now said.status said.text.items) (IsRight (RefusesInput file text.now)) }
 {
     witness_laws();
     let schedule = schedule_of(alloc, text)?;
@@ -123,7 +123,7 @@ fn answered_source(alloc: Global, source: &Source, text: &[u8]) -> Result<Said, 
 fn answered(alloc: Global, file: &[u8], text: &[u8]) -> Result<Said, Refusal>
     requires file { length file.now ≤ longest_source }
     requires text { length text.now ≤ longest_second_file }
-    ensures { MatchResult result (λ said. WitnessAnswer file.now text.now said.status (string_bytes said.text)) (IsRight (RefusesInput file.now text.now)) }
+    ensures { MatchResult result (λ said. AnswersSchedule file.now text.now said.status said.text.items) (IsRight (RefusesInput file.now text.now)) }
 {
     let source = read_source(alloc, file)?;
     let out = answered_source(alloc, &source, text);
@@ -135,13 +135,13 @@ fn answered(alloc: Global, file: &[u8], text: &[u8]) -> Result<Said, Refusal>
 pub fn judge_files(alloc: Global, file: &[u8], text: &[u8]) -> Result<Said, NoMemory>
     requires file { length file.now ≤ longest_source }
     requires text { length text.now ≤ longest_second_file }
-    ensures { IfOk result (λ said. WitnessAnswer file.now text.now said.status (string_bytes said.text)) }
+    ensures { IfOk result (λ said. AnswersSchedule file.now text.now said.status said.text.items) }
 {
     match answered(alloc, file, text) {
         Ok(said) => Ok(said),
         Err(Refusal::Line(ending, line)) => Ok(Said {
             status: ending.code(),
-            text: line,
+            text: line.into_bytes(),
         }),
         Err(Refusal::NoMemory) => Err(NoMemory),
     }

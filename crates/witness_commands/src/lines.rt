@@ -1,7 +1,7 @@
 //! The lines that tell of a schedule.
 
 ghost use Rattle.std.specs.Prelude.{◌≡◌, IfOk, string_bytes};
-ghost use Rattle.witness_commands.specs.Lines.{broken_text, broken_by_line, undecided_line};
+ghost use Rattle.witness_commands.specs.Lines.{broken_text, broken_by_line, undecided_line, nothing_line};
 
 use base::write_number;
 use edge::joined;
@@ -9,7 +9,7 @@ use std::alloc::{AllocError as NoMemory, Global};
 use witness::{Compared, Sense};
 
 /// What is written for words that ask for nothing.
-pub const USAGE: &[u8] = b"usage: atomic_witness FILE SCHEDULE\n";
+pub const USAGE: &[u8] = b"usage: atomic_witness FILE [SCHEDULE]\n";
 
 /// The sense in which promises are broken.
 fn broken_text(sense: Sense) -> &'static str
@@ -47,6 +47,17 @@ pub(crate) fn undecided_line(alloc: Global, seen: u32) -> Result<String, NoMemor
     let mut line = String::from_str(alloc, "not decided: ")?;
     write_number(&mut line, seen)?;
     line.push_str(" states were seen")?;
+    line.push_str("\n")?;
+    Ok(line)
+}
+
+/// The line for a source in which no witness was found, among so many schedules.
+pub(crate) fn nothing_line(alloc: Global, tried: u32) -> Result<String, NoMemory>
+    ensures { IfOk result (λ line. string_bytes line ≡ nothing_line tried) }
+{
+    let mut line = String::from_str(alloc, "no witness found: ")?;
+    write_number(&mut line, tried)?;
+    line.push_str(" schedules were tried")?;
     line.push_str("\n")?;
     Ok(line)
 }

@@ -7,15 +7,17 @@ use Rattle.witness_commands.proofs.answering.answer_of.Goals as goal
 
 pub returns-in_ok-write_schedule-in-Kept : goal.returns-in_ok-write_schedule-in-Kept
 returns-in_ok-write_schedule-in-Kept c =
-    let text = string_bytes c.in_ok-write_schedule-in-Kept.field-0 in
+    let order = c.in-Kept.order.items in
+    let bytes = ap (λ v. v.items) c.into_bytes.ensures.value in
     let wrote = c.in_ok-write_schedule-in-Kept.ensures in
-    subst (λ v. IsSaid v 0 text) (sym c.in-Kept.is)
-    (refl, wrote.text ∙ ap written c.as_slice.ensures.value, subst (λ s. length s ≤ 200000 → IsSchedule text s) c.as_slice.ensures.value wrote.reads_back)
+    let spells = subst (λ s. length s ≤ 200000 → IsSchedule (string_bytes c.in_ok-write_schedule-in-Kept.field-0) s) c.as_slice.ensures.value wrote.reads_back in
+    subst (λ v. IsSaid v 0 c.into_bytes.result.items) (sym c.in-Kept.is)
+    (refl, bytes ∙ wrote.text ∙ ap written c.as_slice.ensures.value, subst (λ o. length order ≤ 200000 → IsSchedule o order) (sym bytes) spells)
 
 pub returns-in_ok-broken_line-in-Broken : goal.returns-in_ok-broken_line-in-Broken
 returns-in_ok-broken_line-in-Broken c =
-    subst (λ v. IsSaid v 2 (string_bytes c.in_ok-broken_line-in-Broken.field-0)) (sym c.in-Broken.is) (refl, c.in_ok-broken_line-in-Broken.ensures)
+    subst (λ v. IsSaid v 2 c.into_bytes-in-Broken.result.items) (sym c.in-Broken.is) (refl, ap (λ v. v.items) c.into_bytes-in-Broken.ensures.value ∙ c.in_ok-broken_line-in-Broken.ensures)
 
 pub returns-in_ok-undecided_line-in-Undecided : goal.returns-in_ok-undecided_line-in-Undecided
 returns-in_ok-undecided_line-in-Undecided c =
-    subst (λ v. IsSaid v 16 (string_bytes c.in_ok-undecided_line-in-Undecided.field-0)) (sym c.in-Undecided.is) (refl, c.in_ok-undecided_line-in-Undecided.ensures)
+    subst (λ v. IsSaid v 16 c.into_bytes-in-Undecided.result.items) (sym c.in-Undecided.is) (refl, ap (λ v. v.items) c.into_bytes-in-Undecided.ensures.value ∙ c.in_ok-undecided_line-in-Undecided.ensures)

@@ -1,5 +1,5 @@
 -- The exits, and what is told.
-use Rattle.std.proofs.Common.{◌≤◌, length, sym, subst, string_bytes}
+use Rattle.std.proofs.Common.{◌≤◌, length, sym, subst}
 use Rattle.std.proofs.lemmas.Result.{err_from_is_err_and}
 use Rattle.core_program.specs.Views.{program_of}
 use Rattle.schedule.proofs.UniqueLemmas.{short_schedule}
@@ -31,5 +31,5 @@ pub returns : goal.returns
 returns c = λ file is.
     let verdict = c.in_ok-verdict.verdict in
     let said = c.in_ok-answer_of.field-0 in
-    told_answer file c.args.text.now c.args.source.now c.in_ok-schedule.schedule.items verdict said.status (string_bytes said.text) c.witness_laws.ensures.compared is c.in_ok-schedule.ensures
+    told_answer file c.args.text.now c.args.source.now c.in_ok-schedule.schedule.items verdict said.status said.text.items c.witness_laws.ensures.compared is c.in_ok-schedule.ensures
     (subst (λ s. IsVerdict (program_of c.args.source.now.program) most_states s verdict) c.as_slice.ensures.value c.in_ok-verdict.ensures) c.in_ok-answer_of.ensures

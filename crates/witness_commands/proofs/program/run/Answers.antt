@@ -1,29 +1,29 @@
 -- Each clause from one record of what was found and said.
-use Rattle.std.proofs.Common.{map, string_bytes, subst, arith}
+use Rattle.std.proofs.Common.{map, option_map, string_bytes, subst, arith}
 use Rattle.edge.specs.Said.{SaysText}
 use Rattle.witness_commands.proofs.Runs.{IsDone, exact, answered, front, unreadable, over_limit, quiet, to_bytes, complete, failing, no_nine, no_eight}
 use Rattle.witness_commands.proofs.Stages.{sentence_at}
 use Rattle.witness_commands.proofs.program.run.Given.{Over}
 use Rattle.witness_commands.proofs.program.run.Goals as goal
 
-the_row : (g : Over) (c : goal.After-drop-outcome g) → IsDone (map string_bytes c.args.words.now) c.say-in-Ok.result (g.F.Folder.told c.args.folder.now) (g.F.Folder.faults c.args.folder.now) (g.F.Folder.faults c.perform.new.folder)
+the_row : (g : Over) (c : goal.After-drop-said g) → IsDone (map string_bytes c.args.words.now) c.say-in-Ok.result (g.F.Folder.told c.args.folder.now) (g.F.Folder.faults c.args.folder.now) (g.F.Folder.faults c.perform.new.folder)
     (g.K.Sink.written c.args.sink.now) (g.K.Sink.written c.say-in-Ok.new.sink) (g.K.Sink.faults c.args.sink.now) (g.K.Sink.faults c.say-in-Ok.new.sink)
 the_row g c = record {
   source = c.in-Some.source.now;
-  schedule = c.in-Some.schedule.now;
+  schedule = option_map (λ name. name.now) c.in-Some.schedule;
   is_row = c.in-Some.ensures;
-  status = c.in-Ok.outcome.status;
-  out = string_bytes c.in-Ok.outcome.text;
+  status = c.in-Ok.said.status;
+  out = c.in-Ok.said.text.items;
   outcome = c.in-Ok.ensures;
-  said = subst (λ text. SaysText c.say-in-Ok.result c.in-Ok.outcome.status text (g.K.Sink.written c.args.sink.now) (g.K.Sink.written c.say-in-Ok.new.sink) (g.K.Sink.faults c.args.sink.now) (g.K.Sink.faults c.say-in-Ok.new.sink))
-      c.as_bytes.ensures.value c.say-in-Ok.ensures;
+  said = subst (λ text. SaysText c.say-in-Ok.result c.in-Ok.said.status text (g.K.Sink.written c.args.sink.now) (g.K.Sink.written c.say-in-Ok.new.sink) (g.K.Sink.faults c.args.sink.now) (g.K.Sink.faults c.say-in-Ok.new.sink))
+      c.as_slice.ensures.value c.say-in-Ok.ensures;
 }
 
 pub returns-in-Ok-clause-usage : goal.returns-in-Ok-clause-usage
-returns-in-Ok-clause-usage g c = λ none. absurd (none c.in-Some.source.now c.in-Some.schedule.now c.in-Some.ensures)
+returns-in-Ok-clause-usage g c = λ none. absurd (none c.in-Some.source.now (option_map (λ name. name.now) c.in-Some.schedule) c.in-Some.ensures)
 
 pub returns-in-Err-clause-usage : goal.returns-in-Err-clause-usage
-returns-in-Err-clause-usage g c = λ none. absurd (none c.in-Some.source.now c.in-Some.schedule.now c.in-Some.ensures)
+returns-in-Err-clause-usage g c = λ none. absurd (none c.in-Some.source.now (option_map (λ name. name.now) c.in-Some.schedule) c.in-Some.ensures)
 
 pub returns-in-Ok-clause-exact : goal.returns-in-Ok-clause-exact
 returns-in-Ok-clause-exact g c = λ source schedule file text asked. exact _ _ _ _ _ _ _ _ _ (the_row g c) source schedule file text asked
@@ -50,15 +50,14 @@ pub returns-in-Ok-clause-complete : goal.returns-in-Ok-clause-complete
 returns-in-Ok-clause-complete g c = λ source schedule file text asked one other sink_calm. complete _ _ _ _ _ _ _ _ _ (the_row g c) source schedule file text asked one other sink_calm
 
 pub returns-in-Ok-clause-sentence : goal.returns-in-Ok-clause-sentence
-returns-in-Ok-clause-sentence g c =
-    sentence_at (map string_bytes c.args.words.now) (g.F.Folder.told c.args.folder.now) c.say-in-Ok.result (g.K.Sink.written c.args.sink.now) (g.K.Sink.written c.say-in-Ok.new.sink)
-    (λ source schedule file text asked. answered _ _ _ _ _ _ _ _ _ (the_row g c) source schedule file text asked)
+returns-in-Ok-clause-sentence g c = λ source schedule file text asked within two. sentence_at source schedule file text (g.K.Sink.written c.args.sink.now) (g.K.Sink.written c.say-in-Ok.new.sink) c.say-in-Ok.result
+    (answered _ _ _ _ _ _ _ _ _ (the_row g c) source schedule file text asked) two
 
 pub returns-in-Err-clause-sentence : goal.returns-in-Err-clause-sentence
-returns-in-Err-clause-sentence g c = λ source schedule file text are source_told schedule_told small short two. absurd (omega (arith, two))
+returns-in-Err-clause-sentence g c = λ source schedule file text asked within two. absurd (omega (arith, two))
 
 pub returns-in_default-clause-sentence : goal.returns-in_default-clause-sentence
-returns-in_default-clause-sentence g c = λ source schedule file text are source_told schedule_told small short two. absurd (c.in_default.ensures source schedule are)
+returns-in_default-clause-sentence g c = λ source schedule file text asked within two. absurd (c.in_default.ensures source schedule asked.is_row)
 
 pub returns-in-Ok-clause-usage_only : goal.returns-in-Ok-clause-usage_only
 returns-in-Ok-clause-usage_only g c = λ nine. absurd (no_nine _ _ _ _ _ _ _ _ _ (the_row g c) nine)

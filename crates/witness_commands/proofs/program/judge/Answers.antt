@@ -1,12 +1,12 @@
 -- What was found, from how the readings ended.
-use Rattle.std.proofs.Common.{ap, subst, string_bytes, Err}
+use Rattle.std.proofs.Common.{Some, refl, ap, subst, Err}
 use Rattle.std.proofs.lemmas.Result.{IfOk-weaker}
 use Rattle.lexer.specs.Limits.{longest_source}
 use Rattle.sources.specs.Limits.{longest_second_file}
-use Rattle.witness_commands.specs.Answers.{WitnessAnswer}
+use Rattle.witness_commands.specs.Answers.{AnswersSchedule}
 use Rattle.witness_commands.specs.Outcomes.{IsWitnessOutcome, IsUnreadLine, read}
 use Rattle.witness_commands.proofs.ReadingLemmas.{earlier, source_ends, schedule_ends, told_within, both_read}
-use Rattle.witness_commands.proofs.program.perform.Goals as goal
+use Rattle.witness_commands.proofs.program.judge.Goals as goal
 
 pub returns-in-Err : goal.returns-in-Err
 returns-in-Err g c =
@@ -16,8 +16,8 @@ returns-in-Err g c =
     let source = c.args.source.now in
     let schedule = c.args.schedule.now in
     let ended = c.in-Err.ensures in
-    IfOk-weaker c.unread.result (λ o. IsUnreadLine source c.in-Err.end o.status (string_bytes o.text)) (λ o. IsWitnessOutcome source schedule told before now o.status (string_bytes o.text))
-    (λ o says. source_ends told before now source schedule c.in-Err.end o.status (string_bytes o.text)
+    IfOk-weaker c.unread.result (λ o. IsUnreadLine source c.in-Err.end o.status o.text.items) (λ o. IsWitnessOutcome source (Some schedule) told before now o.status o.text.items)
+    (λ o says. source_ends told before now source (Some schedule) c.in-Err.end o.status o.text.items
     (record { fault = λ is. ended.fault (ap Err is); others = ended.others; large = λ is. ended.too_large (ap Err is); calm = ended.calm_end }) says)
     c.unread.ensures
 
@@ -32,8 +32,8 @@ returns-in-Err-read_file g c =
     let schedule = c.args.schedule.now in
     let first = c.in-Ok.ensures in
     let ended = c.in-Err-read_file.ensures in
-    IfOk-weaker c.unread-in-Err-read_file.result (λ o. IsUnreadLine schedule c.in-Err-read_file.end o.status (string_bytes o.text)) (λ o. IsWitnessOutcome source schedule told before now o.status (string_bytes o.text))
-    (λ o says. schedule_ends told before now source schedule (told_within (told source) c.in-Ok.bytes.items longest_source first.whole first.within) c.in-Err-read_file.end o.status (string_bytes o.text)
+    IfOk-weaker c.unread-in-Err-read_file.result (λ o. IsUnreadLine schedule c.in-Err-read_file.end o.status o.text.items) (λ o. IsWitnessOutcome source (Some schedule) told before now o.status o.text.items)
+    (λ o says. schedule_ends told before now source (Some schedule) schedule refl (told_within (told source) c.in-Ok.bytes.items longest_source first.whole first.within) c.in-Err-read_file.end o.status o.text.items
     (earlier told after before mid now longest_second_file schedule c.in-Err-read_file.end first.told first.calm
     (record { fault = λ is. ended.fault (ap Err is); others = ended.others; large = λ is. ended.too_large (ap Err is); calm = ended.calm_end })) says)
     c.unread-in-Err-read_file.ensures
@@ -51,7 +51,7 @@ returns g c =
     let other = c.in-Ok-read_file.ensures in
     let file = c.in-Ok.bytes.items in
     let text = c.in-Ok-read_file.bytes.items in
-    IfOk-weaker c.judged.result (λ o. WitnessAnswer c.as_slice.result.now c.as_slice-2.result.now o.status (string_bytes o.text)) (λ o. IsWitnessOutcome source schedule told before now o.status (string_bytes o.text))
-    (λ o answer. read file text (both_read told after before mid now source schedule file text one.told one.calm other.calm one.whole other.whole one.within other.within)
-    (subst (λ f. WitnessAnswer f text o.status (string_bytes o.text)) c.as_slice.ensures.value (subst (λ t. WitnessAnswer c.as_slice.result.now t o.status (string_bytes o.text)) c.as_slice-2.ensures.value answer)))
-    c.judged.ensures
+    IfOk-weaker c.judge_files.result (λ o. AnswersSchedule c.as_slice.result.now c.as_slice-2.result.now o.status o.text.items) (λ o. IsWitnessOutcome source (Some schedule) told before now o.status o.text.items)
+    (λ o answer. read file (Some text) (both_read told after before mid now source schedule file text one.told one.calm other.calm one.whole other.whole one.within other.within)
+    (subst (λ f. AnswersSchedule f text o.status o.text.items) c.as_slice.ensures.value (subst (λ t. AnswersSchedule c.as_slice.result.now t o.status o.text.items) c.as_slice-2.ensures.value answer)))
+    c.judge_files.ensures
