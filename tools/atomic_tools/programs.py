@@ -62,6 +62,11 @@ def witness_told(path: str, schedule_path: str) -> Reply:
     return ran("atomic_witness", (path, schedule_path))
 
 
+def witness_sought(path: str) -> Reply:
+    """The schedule that `atomic_witness` finds in a source, or that it finds none."""
+    return ran("atomic_witness", (path,))
+
+
 def has_witness() -> bool:
     return program("atomic_witness") is not None
 

@@ -225,11 +225,11 @@ class Witnesses(InFolder):
         self.assertEqual(0, status)
         self.assertIn("\n# broken: no schedule that interrupts no atomic call leaves this\n", text)
 
-    def test_a_schedule_with_an_order_shows_nothing(self) -> None:
+    def test_a_source_without_a_witness_says_so(self) -> None:
         self.write("f.java", TWICE)
         status, text, _ = self.run_tool("atomic-witness", "f.java")
         self.assertEqual(1, status)
-        self.assertIn("each ends as one does that interrupts no atomic call", text)
+        self.assertRegex(text, r"\A# no witness found: [0-9]+ schedules were tried\n\Z")
 
     def test_a_name_stays_inside_of_its_comment(self) -> None:
         self.write("x\n0*9\r.java", READS % b"System.out.println(box.first - box.second);")
