@@ -7,7 +7,7 @@ pub mod WhyErrors
 pub mod AllVisits
 pub mod Numbering
 pub mod Helping
--- Lemmas on walks, on names, on which methods are told, and on reasons.
+-- Lemmas on walks, on names, on which methods are told, on reasons, and on what is told where all methods count as `atomic`.
 pub mod Walking
 pub mod Measures
 pub mod NameLemmas
@@ -21,3 +21,4 @@ pub mod Reasons
 pub mod Taken
 pub mod TakenLaws
 pub mod Meant
+pub mod Strictly

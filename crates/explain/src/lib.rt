@@ -13,6 +13,7 @@ mod laws_of_explanations;
 mod names;
 mod program;
 mod step_and_place_laws;
+mod strict;
 mod takings;
 mod walk;
 mod wrapping;
@@ -28,5 +29,6 @@ pub use laws_of_explanations::{
 pub use names::{Alias, Lack, aliases, ascending};
 pub use program::{Explained, explanations};
 pub use step_and_place_laws::{error_laws, help_laws, place_laws, step_laws};
+pub use strict::{keep_strictly, strict_explanations};
 pub use walk::Walk;
 pub use wrapping::around;

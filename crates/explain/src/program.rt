@@ -52,7 +52,7 @@ fn led_to(why: &Why<'_>) -> Option<MethodId>
 }
 
 /// What a method is at its required paths, and why that is more than this limit.
-fn explain_method<'p, A: Assigned>(
+pub(crate) fn explain_method<'p, A: Assigned>(
     walk: &Walk<'_, A>,
     over: &OverridingMethods,
     id: MethodId,

@@ -38,7 +38,7 @@ use Rattle.reasons.specs.Causing.{IsCause}
 use Rattle.reasons.proofs.Causing.{part_meant}
 use Rattle.reasons.proofs.LeastRuns.{within}
 
-bound_atomic : (annotated : Bool) → AtMost Atomic (declared_bound annotated)
+pub bound_atomic : (annotated : Bool) → AtMost Atomic (declared_bound annotated)
 bound_atomic true = refl
 bound_atomic false = refl
 
@@ -61,7 +61,7 @@ module _ (P : Program) (sets : List MethodPaths) (A : Assignment) (rows : List (
   Reasoned m method limit why = IsReasonOf P rel A (overs m) method limit why
 
   -- a method to which more than a limit is assigned has a reason
-  reasoned : (m : ℕ) (method : Method) → slice_get P.methods m ≡ Some method → (limit : Basic) → AtMost Atomic limit → below_of (found_of A m method) limit ≡ false
+  pub reasoned : (m : ℕ) (method : Method) → slice_get P.methods m ≡ Some method → (limit : Basic) → AtMost Atomic limit → below_of (found_of A m method) limit ≡ false
       → Reasoned m method limit (why_of P rel A (overs m) m method limit)
   reasoned m method there limit atomic above =
       meant P rel A (overs m) m method limit atomic
@@ -179,7 +179,7 @@ module _ (P : Program) (sets : List MethodPaths) (A : Assignment) (rows : List (
           subst (λ y. Above y → IsReasonOf P rel A (overs y.method) method y.limit y.why) (ap (refused P rel A overs x.method) (sym same) ∙ sym is)
           (reasoned x.method method there (declared_bound method.annotated) (bound_atomic method.annotated))
 
-  required_relevant : (m : ℕ) → IsSubset (has_path (required_paths (slice_get P.methods m))) (has_path (rel m))
+  pub required_relevant : (m : ℕ) → IsSubset (has_path (required_paths (slice_get P.methods m))) (has_path (rel m))
   required_relevant m = by (slice_get P.methods m) refl
     where
       by : (o : Option Method) → slice_get P.methods m ≡ o → IsSubset (has_path (required_paths o)) (has_path (rel m))

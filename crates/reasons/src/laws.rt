@@ -1,6 +1,6 @@
 //! What is known of the explanations of a least closed assignment.
 
-ghost use Rattle.std.specs.Prelude.{◌≡◌, ℕ, List, Contains, Some, false, true, slice_get};
+ghost use Rattle.std.specs.Prelude.{◌≡◌, ◌↔◌, ℕ, List, Contains, Some, false, true, slice_get};
 ghost use Rattle.algebra.specs.declared.basic.Basic.{Basic};
 ghost use Rattle.algebra.specs.Basics.{below_of};
 ghost use Rattle.algebra.specs.declared.basic.Basic.TheVariants.{Error, Mover};
@@ -11,7 +11,7 @@ ghost use Rattle.core_program.specs.Core.{Method, Program};
 ghost use Rattle.core_program.specs.Typed.{IsTyped};
 ghost use Rattle.infer.specs.Least.{IsLeast};
 ghost use Rattle.rules.specs.Effect.{Assignment, required_paths};
-ghost use Rattle.rules.specs.Near.{AreRelevant, MethodPaths, rel_of};
+ghost use Rattle.rules.specs.Near.{AreFew, AreRelevant, MethodPaths, rel_of};
 ghost use Rattle.rules.specs.Overriding.{AreOverriders};
 ghost use Rattle.rules.specs.Rules.{AtMost, IsSubset};
 ghost use Rattle.rules.specs.Search.{row_at};
@@ -20,6 +20,7 @@ ghost use Rattle.explain.specs.Causes.{cause_of};
 ghost use Rattle.explain.specs.Deeds.{help_of};
 ghost use Rattle.explain.specs.Meanings.{are_within, IsReasonOf};
 ghost use Rattle.explain.specs.Programs.{explanations};
+ghost use Rattle.explain.specs.Strict.{IsStrictlyAccepted, keep_all, strict_explanations};
 ghost use Rattle.explain.specs.Whys.{ExplainedData, Wrong};
 ghost use Rattle.explain.specs.PartEffects.{own_of};
 ghost use Rattle.explain.specs.Visits.{Visit};
@@ -49,6 +50,25 @@ pub fn told_laws()
         IsTyped P → AreRelevant P sets → IsLeast P (rel_of sets) A → AreOverriders P rows →
         (x : ExplainedData) → Contains (explanations P (rel_of sets) A (row_at rows)) x → (v : Visit) → x.why ≡ Wrong v →
         (aliases : List Alias) → IsCause P (rel_of sets) A v.held v.part (cause_of P (rel_of sets) aliases v.held v.part) }
+{}
+
+/// The same of what is told where each method counts as `atomic` but those that threads begin with. All keep these bounds in the least closed
+/// assignment exactly where some falling and closed one keeps them.
+pub fn strict_laws()
+    ensures above { (P : Program) (sets : List MethodPaths) (A : Assignment) (rows : List (List ℕ)) →
+        IsTyped P → AreRelevant P sets → IsLeast P (rel_of sets) A → AreOverriders P rows →
+        (x : ExplainedData) → Contains (strict_explanations P (rel_of sets) A (row_at rows)) x → below_of x.found x.limit ≡ false }
+    ensures reason { (P : Program) (sets : List MethodPaths) (A : Assignment) (rows : List (List ℕ)) →
+        IsTyped P → AreRelevant P sets → IsLeast P (rel_of sets) A → AreOverriders P rows →
+        (x : ExplainedData) → Contains (strict_explanations P (rel_of sets) A (row_at rows)) x →
+        (method : Method) → slice_get P.methods x.method ≡ Some method →
+        IsReasonOf P (rel_of sets) A (row_at rows x.method) method x.limit x.why }
+    ensures cause { (P : Program) (sets : List MethodPaths) (A : Assignment) (rows : List (List ℕ)) →
+        IsTyped P → AreRelevant P sets → IsLeast P (rel_of sets) A → AreOverriders P rows →
+        (x : ExplainedData) → Contains (strict_explanations P (rel_of sets) A (row_at rows)) x → (v : Visit) → x.why ≡ Wrong v →
+        (aliases : List Alias) → IsCause P (rel_of sets) A v.held v.part (cause_of P (rel_of sets) aliases v.held v.part) }
+    ensures decides { (P : Program) (sets : List MethodPaths) (A : Assignment) →
+        IsTyped P → AreRelevant P sets → AreFew sets → IsLeast P (rel_of sets) A → (keep_all P A ≡ true) ↔ IsStrictlyAccepted P }
 {}
 
 /// What is told of a part that is an error by itself is so, at this part: its guard or a path that its callee requires isn't held here, or has

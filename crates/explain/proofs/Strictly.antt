@@ -1,0 +1,136 @@
+-- What is told where each method counts as `atomic`.
+use Rattle.std.proofs.Common.{◌≡◌, ℕ, zero, suc, ◌+◌, Bool, true, false, ◌&&◌, List, [], ◌∷◌, ◌++◌, Some, Contains, append-nil, append_assoc, drop, get_or, length, map, slice_get, refl, sym, ap, subst, ◌∙◌, ◌<◌, ◌≤◌, arith, if◌then◌else◌}
+use Rattle.std.proofs.Math.ListN.{drop_of_length-le}
+use Rattle.std.proofs.lemmas.List.{map-append}
+use Rattle.base.proofs.Lists.{next_drop}
+use Rattle.core_program.specs.declared.program.CoreMethod.{CoreMethod}
+use Rattle.core_program.specs.Views.{method_of}
+use Rattle.std.specs.List.{AllByRecursion}
+use Rattle.std.proofs.lemmas.Bool.{and_from, and_parts}
+use Rattle.paths.specs.Paths.{PathData}
+use Rattle.algebra.specs.Basics.{below_of}
+use Rattle.core_program.specs.Core.{Program, Method}
+use Rattle.rules.specs.Effect.{Assignment}
+use Rattle.explain.specs.Programs.{explained, found_of}
+use Rattle.explain.specs.Strict.{keep_all, keep_from, keeps_strictly, strict_bound, strict_explanations, strict_from, strictly_broken_from, strictly_told}
+use Rattle.explain.specs.Views.{explained_data}
+use Rattle.explain.specs.Whys.{ExplainedData}
+use Rattle.explain.specs.declared.program.Explained.{Explained}
+use Rattle.explain.proofs.Telling.{all_contains, IsRest, rest_first, rest_next, whole}
+
+module _ (P : Program) (rel : ℕ → List PathData) (A : Assignment) (overs : ℕ → List ℕ) where
+  -- an explanation is that of a method of the program, which has more than its bound
+  pub record IsStrictlyTold (x : ExplainedData) : Type 0 where
+    pub method : Method
+    pub there : slice_get P.methods x.method ≡ Some method
+    pub is : x ≡ explained P rel A overs true (strict_bound P x.method method) x.method method
+    pub above : below_of (found_of A x.method method) (strict_bound P x.method method) ≡ false
+
+  told_one : (m : ℕ) (method : Method) → slice_get P.methods m ≡ Some method → (xs : List ExplainedData) → AllByRecursion IsStrictlyTold xs
+      → AllByRecursion IsStrictlyTold (strictly_told P rel A overs m method ++ xs)
+  told_one m method there xs rest = by (keeps_strictly P A m method) refl
+    where
+      by : (b : Bool) → keeps_strictly P A m method ≡ b → AllByRecursion IsStrictlyTold ((if b then [] else explained P rel A overs true (strict_bound P m method) m method ∷ []) ++ xs)
+      by true is = rest
+      by false is = (record { method = method; there = there; is = refl; above = is }, rest)
+
+  told_from : (methods : List Method) (m : ℕ) → IsRest P rel A overs m methods → AllByRecursion IsStrictlyTold (strict_from P rel A overs m methods)
+  told_from [] m r = tt
+  told_from (method ∷ methods) m r =
+      told_one m method (rest_first P rel A overs m method methods r) (strict_from P rel A overs (m + 1) methods) (told_from methods (m + 1) (rest_next P rel A overs m method methods r))
+
+  pub all_strictly_told : (x : ExplainedData) → Contains (strict_explanations P rel A overs) x → IsStrictlyTold x
+  all_strictly_told x c = all_contains P rel A overs IsStrictlyTold (strict_explanations P rel A overs) x (told_from P.methods 0 (whole P rel A overs)) c
+
+  -- where no bound is broken, nothing is told
+  pub none_strict : (methods : List Method) (m : ℕ) → strictly_broken_from P A m methods ≡ [] → strict_from P rel A overs m methods ≡ []
+  none_strict [] m e = refl
+  none_strict (method ∷ methods) m e = by (keeps_strictly P A m method) (none_strict methods (m + 1)) e
+    where
+      by : (b : Bool) → (strictly_broken_from P A (m + 1) methods ≡ [] → strict_from P rel A overs (m + 1) methods ≡ [])
+          → (if b then strictly_broken_from P A (m + 1) methods else m ∷ strictly_broken_from P A (m + 1) methods) ≡ []
+          → (if b then [] else explained P rel A overs true (strict_bound P m method) m method ∷ []) ++ strict_from P rel A overs (m + 1) methods ≡ []
+      by true rest none = rest none
+      by false rest none = absurd cc
+
+  -- ---- the same in memory
+
+  -- nothing is told of a method that keeps its bound
+  pub kept_told : (m : ℕ) (method : Method) (b : Bool) → b ≡ keeps_strictly P A m method → b ≡ true → (xs : List ExplainedData) → xs ≡ xs ++ strictly_told P rel A overs m method
+  kept_told m method b is kept xs =
+      sym (append-nil xs) ∙ ap (λ t. xs ++ (if t then [] else explained P rel A overs true (strict_bound P m method) m method ∷ [])) (sym kept ∙ is)
+
+  -- of one that breaks it, its explanation is
+  pub broken_told : (m : ℕ) (method : Method) (b : Bool) → b ≡ keeps_strictly P A m method → b ≡ false → (old pushed : List Explained) (x : Explained)
+      → explained_data x ≡ explained P rel A overs true (strict_bound P m method) m method → pushed ≡ old ++ x ∷ []
+      → map explained_data pushed ≡ map explained_data old ++ strictly_told P rel A overs m method
+  broken_told m method b is broken old pushed x x_is pushed_is =
+      ap (map explained_data) pushed_is ∙ map-append explained_data old (x ∷ []) ∙ ap (λ y. map explained_data old ++ y ∷ []) x_is
+      ∙ ap (λ t. map explained_data old ++ (if t then [] else explained P rel A overs true (strict_bound P m method) m method ∷ [])) (sym broken ∙ is)
+
+  -- the explanations so far and those of the rest, after one method more
+  pub one_more_told : (methods : List CoreMethod) (i : ℕ) (method : CoreMethod) (all all1 every : List ExplainedData) → i < length methods → method ≡ get_or methods i method
+      → all1 ≡ all ++ strictly_told P rel A overs i (method_of method) → all ++ strict_from P rel A overs i (map method_of (drop i methods)) ≡ every
+      → all1 ++ strict_from P rel A overs (i + 1) (map method_of (drop (i + 1) methods)) ≡ every
+  one_more_told methods i method all all1 every below is adds before =
+      let rest = strict_from P rel A overs (i + 1) (map method_of (drop (i + 1) methods)) in
+      ap (λ l. l ++ rest) adds ∙ append_assoc all (strictly_told P rel A overs i (method_of method)) rest
+      ∙ ap (λ l. all ++ strict_from P rel A overs i (map method_of l)) (sym (next_drop methods i method below is)) ∙ before
+
+  -- at the end they are all
+  pub all_told : (methods : List CoreMethod) (i : ℕ) (all : List ExplainedData) → length methods ≤ i → map method_of methods ≡ P.methods
+      → all ++ strict_from P rel A overs i (map method_of (drop i methods)) ≡ strict_from P rel A overs 0 (map method_of methods) → all ≡ strict_explanations P rel A overs
+  all_told methods i all past are so_far =
+      sym (append-nil all) ∙ ap (λ ms. all ++ strict_from P rel A overs i (map method_of ms)) (sym (drop_of_length-le methods past)) ∙ so_far ∙ ap (strict_from P rel A overs 0) are
+
+module _ (P : Program) (A : Assignment) where
+  -- a method that breaks its bound, one that keeps it, and the end
+  pub one_breaks : (methods : List CoreMethod) (i : ℕ) (method : CoreMethod) (b : Bool) → i < length methods → method ≡ get_or methods i method → b ≡ keeps_strictly P A i (method_of method) → b ≡ false
+      → keep_from P A i (map method_of (drop i methods)) ≡ keep_from P A 0 (map method_of methods) → map method_of methods ≡ P.methods → false ≡ keep_all P A
+  one_breaks methods i method b below is test broken so_far are =
+      ap (λ t. t && keep_from P A (i + 1) (map method_of (drop (i + 1) methods))) (sym broken ∙ test)
+      ∙ ap (λ l. keep_from P A i (map method_of l)) (sym (next_drop methods i method below is)) ∙ so_far ∙ ap (keep_from P A 0) are
+
+  pub one_keeps : (methods : List CoreMethod) (i : ℕ) (method : CoreMethod) (b : Bool) → i < length methods → method ≡ get_or methods i method → b ≡ keeps_strictly P A i (method_of method) → b ≡ true
+      → keep_from P A i (map method_of (drop i methods)) ≡ keep_from P A 0 (map method_of methods)
+      → keep_from P A (i + 1) (map method_of (drop (i + 1) methods)) ≡ keep_from P A 0 (map method_of methods)
+  one_keeps methods i method b below is test kept so_far =
+      ap (λ t. t && keep_from P A (i + 1) (map method_of (drop (i + 1) methods))) (sym kept ∙ test)
+      ∙ ap (λ l. keep_from P A i (map method_of l)) (sym (next_drop methods i method below is)) ∙ so_far
+
+  pub all_keep : (methods : List CoreMethod) (i : ℕ) → length methods ≤ i → keep_from P A i (map method_of (drop i methods)) ≡ keep_from P A 0 (map method_of methods)
+      → map method_of methods ≡ P.methods → true ≡ keep_all P A
+  all_keep methods i past so_far are = ap (λ l. keep_from P A i (map method_of l)) (sym (drop_of_length-le methods past)) ∙ so_far ∙ ap (keep_from P A 0) are
+
+  -- where all are kept, each is, and the other way round
+  pub kept_at : (methods : List Method) (m : ℕ) → keep_from P A m methods ≡ true → (k j : ℕ) (method : Method) → j ≡ m + k → slice_get methods k ≡ Some method → keeps_strictly P A j method ≡ true
+  kept_at [] m all k j method number is = absurd cc
+  kept_at (first ∷ methods) m all zero j method number is =
+      let same : first ≡ method = cc in
+      let here : m ≡ j = omega (arith, number) in
+      let kept = and_parts (keeps_strictly P A m first) (keep_from P A (m + 1) methods) all in
+      subst (λ x. keeps_strictly P A j x ≡ true) same (subst (λ n. keeps_strictly P A n first ≡ true) here kept.0)
+  kept_at (first ∷ methods) m all (suc k) j method number is =
+      kept_at methods (m + 1) (and_parts (keeps_strictly P A m first) (keep_from P A (m + 1) methods) all).1 k j method (omega (arith, number)) is
+
+  pub all_kept : (methods : List Method) (m : ℕ) → ((k j : ℕ) (method : Method) → j ≡ m + k → slice_get methods k ≡ Some method → keeps_strictly P A j method ≡ true) → keep_from P A m methods ≡ true
+  all_kept [] m each = refl
+  all_kept (method ∷ methods) m each =
+      and_from (keeps_strictly P A m method) (keep_from P A (m + 1) methods) (each 0 m method (omega arith) refl)
+      (all_kept methods (m + 1) (λ k j its number is. each (suc k) j its (omega (arith, number)) is))
+
+  -- where all are kept, none is broken, and the other way round
+  pub none_broken_strictly : (methods : List Method) (m : ℕ) → keep_from P A m methods ≡ true → strictly_broken_from P A m methods ≡ []
+  none_broken_strictly [] m all = refl
+  none_broken_strictly (method ∷ methods) m all =
+      let kept = and_parts (keeps_strictly P A m method) (keep_from P A (m + 1) methods) all in
+      rw (kept.0) (none_broken_strictly methods (m + 1) kept.1)
+
+  pub some_broken_strictly : (methods : List Method) (m : ℕ) → keep_from P A m methods ≡ false → strictly_broken_from P A m methods ≡ [] → ⊥
+  some_broken_strictly [] m broken none = cc
+  some_broken_strictly (method ∷ methods) m broken none = by (keeps_strictly P A m method) (some_broken_strictly methods (m + 1)) broken none
+    where
+      by : (b : Bool) → (keep_from P A (m + 1) methods ≡ false → strictly_broken_from P A (m + 1) methods ≡ [] → ⊥) → (b && keep_from P A (m + 1) methods) ≡ false
+          → (if b then strictly_broken_from P A (m + 1) methods else m ∷ strictly_broken_from P A (m + 1) methods) ≡ [] → ⊥
+      by true rest broken none = rest broken none
+      by false rest broken none = cc

@@ -1,0 +1,111 @@
+//! The explanations of a program whose methods all count as `atomic`, but those that threads begin with.
+
+ghost use Rattle.std.specs.Prelude.{◌≡◌, ◌≤◌, ◌^◌, ◌++◌, map, length, IfOk, OnOk};
+ghost use Rattle.std.specs.List.{list_any};
+ghost use Rattle.core_program.specs.Views.{core_class_of, method_of, program_of};
+ghost use Rattle.rules.specs.Near.{rel_of};
+ghost use Rattle.rules.specs.Search.{row_at};
+ghost use Rattle.explain.specs.Strict.{is_entry, is_run, keep_all, keeps_strictly, strict_bound, strict_explanations, strictly_told};
+ghost use Rattle.explain.specs.Views.{explained_data};
+
+use crate::program::{Explained, explain_method};
+use crate::walk::Walk;
+use algebra::Basic;
+use core_program::{CoreClass, CoreMethod, CoreProgram};
+use effects::Assigned;
+use paths::MethodId;
+use rules::{OverridingMethods, bound_of};
+use std::alloc::AllocError as NoMemory;
+
+/// Whether this method runs for `run`.
+fn is_run(id: MethodId, run: Option<MethodId>) -> bool
+    ensures { result ≡ is_run id run }
+{
+    match run {
+        Some(method) => method == id,
+        None => false,
+    }
+}
+
+/// Whether it does so for one of these classes.
+fn runs(id: MethodId, classes: &[CoreClass]) -> bool
+    ensures { result ≡ list_any (λ c. is_run id c.run) (map core_class_of classes.now) }
+{
+    for class in classes {
+        if is_run(id, class.run) {
+            return true;
+        }
+    }
+    false
+}
+
+/// Whether a thread begins with this method.
+fn is_entry(program: &CoreProgram, id: MethodId) -> bool
+    ensures { result ≡ is_entry (program_of program.now) id }
+{
+    id == program.main || runs(id, program.classes())
+}
+
+/// The greatest basic that a method may have.
+fn strict_bound(program: &CoreProgram, id: MethodId, method: &CoreMethod) -> Basic
+    ensures { result ≡ strict_bound (program_of program.now) id (method_of method.now) }
+{
+    bound_of(method.annotated || !is_entry(program, id))
+}
+
+/// Whether a method has no more.
+fn keeps_strictly<A: Assigned>(walk: &Walk<'_, A>, id: MethodId, method: &CoreMethod) -> bool
+    ensures { result ≡ keeps_strictly (program_of walk.now.program.now) (A.Assigned.assigned walk.now.assigned.now) id (method_of method.now) }
+{
+    let found = walk.assigned.at(id, method.requires_.as_slice());
+    found.below(strict_bound(walk.program, id, method))
+}
+
+/// Whether every method has no more.
+pub fn keep_strictly<A: Assigned>(walk: &Walk<'_, A>) -> bool
+    requires { length (program_of walk.now.program.now).methods ≤ 2 ^ 32 }
+    ensures { result ≡ keep_all (program_of walk.now.program.now) (A.Assigned.assigned walk.now.assigned.now) }
+{
+    for (m, method) in walk.program.methods().iter().enumerate() {
+        if !keeps_strictly(walk, MethodId(m as u32), method) {
+            return false;
+        }
+    }
+    true
+}
+
+/// Adds the explanation of a method, where it has more.
+fn add_strict<'p, A: Assigned>(
+    walk: &Walk<'p, A>,
+    over: &OverridingMethods,
+    id: MethodId,
+    method: &'p CoreMethod,
+    all: &mut Vec<Explained<'p>>,
+) -> Result<(), NoMemory>
+    ensures { OnOk result (map explained_data all.new.items ≡ map explained_data all.old.items
+        ++ strictly_told (program_of walk.now.program.now) (rel_of walk.now.sets.now) (A.Assigned.assigned walk.now.assigned.now) (row_at over.now) id (method_of method.now)) }
+{
+    if keeps_strictly(walk, id, method) {
+        return Ok(());
+    }
+    let limit = strict_bound(walk.program, id, method);
+    let x = explain_method(walk, over, id, method, true, limit)?;
+    all.push(x)?;
+    Ok(())
+}
+
+/// The explanations of the methods that have more than they may where each counts as `atomic` but those that threads begin with, in
+/// source order.
+pub fn strict_explanations<'p, A: Assigned>(
+    walk: &Walk<'p, A>,
+    over: &OverridingMethods,
+) -> Result<Vec<Explained<'p>>, NoMemory>
+    requires { length (program_of walk.now.program.now).methods ≤ 2 ^ 32 }
+    ensures { IfOk result (λ all. map explained_data all.items ≡ strict_explanations (program_of walk.now.program.now) (rel_of walk.now.sets.now) (A.Assigned.assigned walk.now.assigned.now) (row_at over.now)) }
+{
+    let mut all = Vec::new(walk.alloc);
+    for (m, method) in walk.program.methods().iter().enumerate() {
+        add_strict(walk, over, MethodId(m as u32), method, &mut all)?;
+    }
+    Ok(all)
+}
