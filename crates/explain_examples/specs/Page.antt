@@ -40,6 +40,10 @@ locking_program = record {
   main = 1;
 }
 
+-- the same program, whose class runs `put` for `run`
+abbrev pub running_program : Program
+running_program = record locking_program { classes = record { fields = []; finals = []; run = Some 0; above = None; targets = [] } ∷ [] }
+
 abbrev pub no_locks : ℕ → List PathData
 no_locks m = []
 

@@ -8,6 +8,7 @@ pub mod deeds;
 pub mod lines;
 pub mod names;
 pub mod reasons;
+pub mod strict;
 pub mod takings;
 pub mod walks;
 pub mod words;

@@ -1,10 +1,10 @@
 //! Whole lines, computed.
-ghost use Rattle.std.specs.Prelude.{◌≡◌, true, false, [], ◌∷◌, ◌++◌, map, slice_get, codes};
+ghost use Rattle.std.specs.Prelude.{◌≡◌, true, false, [], ◌∷◌, ◌++◌, map, slice_get, codes, None};
 ghost use Rattle.algebra.specs.declared.basic.Basic.TheVariants.{Const, Mover, Atomic, Cmpd, Error};
 ghost use Rattle.explain.specs.declared.causes.Cause.TheVariants as cause;
 ghost use Rattle.explain.specs.declared.deeds.Help.TheVariants as helps;
 ghost use Rattle.explain.specs.Whys.{Wrong, Looped, Compound, Two, Overridden, Nothing};
-ghost use Rattle.explain_text.specs.Blocks.{around_line, cause_line, head_line, help_line, help_lines, help_note, is_words, kind_word, method_name_offset, more_lines, more_text, note_beside, over_line, step_line, steps_lines};
+ghost use Rattle.explain_text.specs.Blocks.{around_line, cause_line, declares, head_line, help_line, help_lines, help_note, is_words, kind_word, method_name_offset, more_lines, more_text, note_beside, over_line, promise_words, step_line, steps_lines};
 ghost use Rattle.explain_text.specs.declared.codes.StepKind.TheVariants as kind;
 ghost use Rattle.explain_text.specs.Listings.{listing_from};
 ghost use Rattle.explain_text.specs.Pages.{words_before_kind, note_front, note_line, node_offset, place_front};
@@ -20,12 +20,17 @@ pub fn how_lines_begin()
     ensures notes { note_front page 2 ≡ codes "f:2:2: note: " }
     ensures line { note_line page 4 (codes "x") (codes "y") ≡ codes "f:2:2: note: x [y]\n" }
     ensures names { map (λ m. method_name_offset (slice_get locking_program.methods m)) (0 ∷ 1 ∷ 7 ∷ []) ≡ 4 ∷ 0 ∷ 0 ∷ [] }
-    ensures words { map (λ b. is_words b Atomic) (true ∷ false ∷ []) ≡ codes " is declared atomic, found " ∷ codes " is " ∷ [] }
+    ensures promises { map (λ o. map (declares o) (Atomic ∷ Cmpd ∷ [])) (slice_get locking_program.methods 0 ∷ slice_get locking_program.methods 1 ∷ None ∷ []) ≡
+        (false ∷ true ∷ []) ∷ (true ∷ true ∷ []) ∷ (true ∷ true ∷ []) ∷ [] }
+    ensures words { map (λ b. is_words true b Atomic) (true ∷ false ∷ []) ≡ codes " is declared atomic, found " ∷ codes " is " ∷ [] }
+    ensures other_words { map (λ b. is_words false b Atomic) (true ∷ false ∷ []) ≡ codes " counts as atomic, found " ∷ codes " is " ∷ [] }
+    ensures promise { map promise_words (true ∷ false ∷ []) ≡ codes " is declared " ∷ codes " counts as " ∷ [] }
 {}
 
 /// The first line of a method, and the lines of errors and of overriding methods.
 pub fn how_methods_are_told()
-    ensures refused { head_line locking_program page (record { method = 0; is_refused = true; limit = Atomic; found = Cmpd; why = Two (one_step 1) (one_step 2) }) ≡ codes "f:2:2: error: A.put is declared atomic, found cmpd [two-steps]\n" }
+    ensures refused { head_line locking_program page (record { method = 1; is_refused = true; limit = Atomic; found = Cmpd; why = Two (one_step 1) (one_step 2) }) ≡ codes "f:1:1: error: A.main is declared atomic, found cmpd [two-steps]\n" }
+    ensures strict { head_line locking_program page (record { method = 0; is_refused = true; limit = Atomic; found = Cmpd; why = Two (one_step 1) (one_step 2) }) ≡ codes "f:2:2: error: A.put counts as atomic, found cmpd [two-steps]\n" }
     ensures compound { head_line locking_program page (record { method = 1; is_refused = false; limit = Atomic; found = Cmpd; why = Compound (one_step 1) }) ≡ codes "f:1:1: note: A.main is cmpd [compound-call]\n" }
     ensures error { cause_line page 1 [] (cause.Refused 0) ≡ codes "f:2:1: note: calls A.put, which is an error itself [calls-an-error]\n" }
     ensures counts { map more_text (1 ∷ 2 ∷ 10 ∷ []) ≡ codes "1 more method is refused for a call of it" ∷ codes "2 more methods are refused for a call of it" ∷ codes "10 more methods are refused for a call of it" ∷ [] }

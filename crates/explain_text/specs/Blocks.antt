@@ -1,7 +1,7 @@
 -- The lines of one method.
 use Rattle.std.specs.Prelude.{◌≡◌, ◌==◌, ℕ, Bool, true, false, List, [], ◌++◌, Option, Some, None, codes, decimal, slice_get, if◌then◌else◌}
 use Rattle.algebra.specs.declared.basic.Basic.{Basic}
-use Rattle.algebra.specs.Basics.{name_of}
+use Rattle.algebra.specs.Basics.{below_of, name_of}
 use Rattle.core_program.specs.Core.{Program, Method}
 use Rattle.explain.specs.declared.names.Alias.{Alias}
 use Rattle.explain.specs.declared.causes.Cause.{Cause}
@@ -13,6 +13,7 @@ use Rattle.explain.specs.Whys.{WhyData, Wrong, Looped, Compound, Two, Overridden
 use Rattle.paths.specs.Paths.{PathData}
 use Rattle.report.specs.Verdicts.{title_text}
 use Rattle.rules.specs.Effect.{Assignment}
+use Rattle.rules.specs.Rules.{declared_bound}
 use Rattle.explain.specs.Visits.{Visit}
 use Rattle.explain_text.specs.Pages.{PageData, node_offset, words_before_kind, note_line}
 use Rattle.explain_text.specs.declared.codes.StepKind.{StepKind}
@@ -27,21 +28,31 @@ abbrev pub method_name_offset : Option Method → ℕ
 method_name_offset None = 0
 method_name_offset (Some method) = method.place_at
 
--- the words between a method and what it is: those of one that breaks its bound, or of one that keeps it
-abbrev pub is_words : (is_refused : Bool) → Basic → List ℕ
-is_words true limit = codes " is declared " ++ name_of limit ++ codes ", found "
-is_words false limit = codes " is "
+-- whether what a method declares is within this bound: one that says nothing may be compound
+abbrev pub declares : Option Method → Basic → Bool
+declares None limit = true
+declares (Some method) limit = below_of (declared_bound method.annotated) limit
+
+-- the words before the bound that a method breaks: of one that declares it, or of one that only counts as such a method
+abbrev pub promise_words : (is_declared : Bool) → List ℕ
+promise_words true = codes " is declared "
+promise_words false = codes " counts as "
+
+-- the words between a method and what it is: those of one that breaks a bound, or of one that keeps it
+abbrev pub is_words : (is_declared is_refused : Bool) → Basic → List ℕ
+is_words is_declared true limit = promise_words is_declared ++ name_of limit ++ codes ", found "
+is_words is_declared false limit = codes " is "
 
 -- the word by which a line says how grave it is: `error` where the method is refused for it, else `note`
 abbrev pub kind_word : (is_refused : Bool) → List ℕ
 kind_word true = codes "error"
 kind_word false = codes "note"
 
--- `.. error: C.m is declared D, found F [CODE]`, or `.. note: C.m is F [CODE]`
+-- `.. error: C.m is declared D, found F [CODE]`, `.. error: C.m counts as D, found F [CODE]`, or `.. note: C.m is F [CODE]`
 abbrev pub head_line : Program → PageData → ExplainedData → List ℕ
 head_line P page x =
     words_before_kind page (method_name_offset (slice_get P.methods x.method)) (kind_word x.is_refused)
-    ++ title_text page.table x.method ++ is_words x.is_refused x.limit ++ name_of x.found ++ ending (why_code x.why)
+    ++ title_text page.table x.method ++ is_words (declares (slice_get P.methods x.method) x.limit) x.is_refused x.limit ++ name_of x.found ++ ending (why_code x.why)
 
 -- a method that overrides another and is this
 abbrev pub over_text : PageData → ℕ → Basic → List ℕ

@@ -7,7 +7,7 @@ ghost use Rattle.rules.specs.Near.{rel_of};
 ghost use Rattle.rules.specs.Search.{row_at};
 ghost use Rattle.explain.specs.Around.{around};
 ghost use Rattle.explain.specs.Views.{explained_data, visit_of, why_data};
-ghost use Rattle.explain_text.specs.Blocks.{IsBlock, IsErrorLine, IsWhyText, cause_line, head_line, is_words, method_name_offset, over_line, over_text};
+ghost use Rattle.explain_text.specs.Blocks.{IsBlock, IsErrorLine, IsWhyText, cause_line, declares, head_line, is_words, method_name_offset, over_line, over_text, promise_words};
 ghost use Rattle.explain_text.specs.Views.{page_data};
 
 use crate::causes::write_cause;
@@ -20,7 +20,7 @@ use effects::Assigned;
 use explain::{Alias, Cause, Explained, Visited, Walk, Why, around, ascending, cause_of};
 use paths::{MethodId, Path};
 use report::write_title;
-use rules::OverridingMethods;
+use rules::{OverridingMethods, bound_of};
 use std::alloc::AllocError as NoMemory;
 
 /// The offset of a method's name; 0 where there is no such method.
@@ -33,27 +33,59 @@ pub(crate) fn name_offset(program: &CoreProgram, method: MethodId) -> u32
     }
 }
 
+/// Whether what a method declares is within this bound; true where there is no such method.
+fn declares(program: &CoreProgram, method: MethodId, limit: Basic) -> bool
+    ensures { result ≡ declares (slice_get (program_of program.now).methods method) limit }
+{
+    match program.methods().get(method.0 as usize) {
+        Some(method) => bound_of(method.annotated).below(limit),
+        None => true,
+    }
+}
+
+/// The words before the bound that a method breaks.
+fn promise_words(is_declared: bool) -> &'static str
+    ensures { result.now ≡ promise_words is_declared }
+{
+    if is_declared {
+        " is declared "
+    } else {
+        " counts as "
+    }
+}
+
 /// Writes the words between a method and what it is.
-fn write_is(out: &mut String, is_refused: bool, limit: Basic) -> Result<(), NoMemory>
-    ensures { OnOk result (string_bytes out.new ≡ string_bytes out.old ++ is_words is_refused limit) }
+fn write_is(
+    out: &mut String,
+    is_declared: bool,
+    is_refused: bool,
+    limit: Basic,
+) -> Result<(), NoMemory>
+    ensures { OnOk result (string_bytes out.new ≡ string_bytes out.old ++ is_words is_declared is_refused limit) }
 {
     if !is_refused {
         return out.push_str(" is ");
     }
-    out.push_str(" is declared ")?;
+    out.push_str(promise_words(is_declared))?;
     out.push_str(limit.name())?;
     out.push_str(", found ")
 }
 
 /// What stands behind a method, in one piece for the basics that most methods have that are told.
-fn usual_words(is_refused: bool, limit: Basic, found: Basic) -> Option<&'static str>
-    ensures { IfSome result (λ words. words.now ≡ is_words is_refused limit ++ name_of found) }
+fn usual_words(
+    is_declared: bool,
+    is_refused: bool,
+    limit: Basic,
+    found: Basic,
+) -> Option<&'static str>
+    ensures { IfSome result (λ words. words.now ≡ is_words is_declared is_refused limit ++ name_of found) }
 {
-    match (is_refused, limit, found) {
-        (true, Basic::Atomic, Basic::Cmpd) => Some(" is declared atomic, found cmpd"),
-        (true, Basic::Atomic, Basic::Error) => Some(" is declared atomic, found error"),
-        (true, Basic::Cmpd, Basic::Error) => Some(" is declared cmpd, found error"),
-        (false, _, Basic::Cmpd) => Some(" is cmpd"),
+    match (is_declared, is_refused, limit, found) {
+        (true, true, Basic::Atomic, Basic::Cmpd) => Some(" is declared atomic, found cmpd"),
+        (true, true, Basic::Atomic, Basic::Error) => Some(" is declared atomic, found error"),
+        (true, true, Basic::Cmpd, Basic::Error) => Some(" is declared cmpd, found error"),
+        (false, true, Basic::Atomic, Basic::Cmpd) => Some(" counts as atomic, found cmpd"),
+        (_, false, _, Basic::Cmpd) => Some(" is cmpd"),
         _ => None,
     }
 }
@@ -61,28 +93,30 @@ fn usual_words(is_refused: bool, limit: Basic, found: Basic) -> Option<&'static 
 /// Writes what stands behind a method, piece by piece.
 fn write_pieces(
     out: &mut String,
+    is_declared: bool,
     is_refused: bool,
     limit: Basic,
     found: Basic,
 ) -> Result<(), NoMemory>
-    ensures { OnOk result (string_bytes out.new ≡ string_bytes out.old ++ (is_words is_refused limit ++ name_of found)) }
+    ensures { OnOk result (string_bytes out.new ≡ string_bytes out.old ++ (is_words is_declared is_refused limit ++ name_of found)) }
 {
-    write_is(out, is_refused, limit)?;
+    write_is(out, is_declared, is_refused, limit)?;
     out.push_str(found.name())
 }
 
 /// Writes what stands behind a method.
 fn write_found(
     out: &mut String,
+    is_declared: bool,
     is_refused: bool,
     limit: Basic,
     found: Basic,
 ) -> Result<(), NoMemory>
-    ensures { OnOk result (string_bytes out.new ≡ string_bytes out.old ++ (is_words is_refused limit ++ name_of found)) }
+    ensures { OnOk result (string_bytes out.new ≡ string_bytes out.old ++ (is_words is_declared is_refused limit ++ name_of found)) }
 {
-    match usual_words(is_refused, limit, found) {
+    match usual_words(is_declared, is_refused, limit, found) {
         Some(words) => out.push_str(words),
-        None => write_pieces(out, is_refused, limit, found),
+        None => write_pieces(out, is_declared, is_refused, limit, found),
     }
 }
 
@@ -95,9 +129,10 @@ fn write_head(
 ) -> Result<(), NoMemory>
     ensures { OnOk result (string_bytes out.new ≡ string_bytes out.old ++ head_line (program_of program.now) (page_data page.now) (explained_data x.now)) }
 {
+    let is_declared = declares(program, x.method, x.limit);
     begin_line(out, page, name_offset(program, x.method), x.is_refused)?;
     write_title(out, page.table, x.method)?;
-    write_found(out, x.is_refused, x.limit, x.found)?;
+    write_found(out, is_declared, x.is_refused, x.limit, x.found)?;
     out.push_str(why_ending(&x.why))
 }
 

@@ -6,6 +6,10 @@ pub returns-clause-refused : goal.returns-clause-refused
 unfolding digits
 returns-clause-refused c = refl
 
+pub returns-clause-strict : goal.returns-clause-strict
+unfolding digits
+returns-clause-strict c = refl
+
 pub returns-clause-compound : goal.returns-clause-compound
 unfolding digits
 returns-clause-compound c = refl
