@@ -1,7 +1,7 @@
 -- Explanations against the methods that break their bounds (Breaking), the least assignment that trees show (Leasts), that told methods
 -- are there (There), the lines of methods (Writing), the line of a source that isn't well-formed (Forms), what is answered to bytes
--- (Stages), when it ends how (Endings), which status is the worst (Worst), several files (Several), the clauses of the top call (Runs), and the
--- sentence (Telling).
+-- (Stages), when it ends how (Endings), which status is the worst (Worst), several files (Several), the clauses of the top call (Runs), where
+-- named parts stand (Placing), and the sentence (Telling).
 mod Breaking
 mod Leasts
 mod There
@@ -12,4 +12,5 @@ mod Endings
 mod Worst
 mod Several
 mod Runs
+mod Placing
 mod Telling

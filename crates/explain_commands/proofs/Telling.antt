@@ -1,5 +1,5 @@
 -- The sentence, from what the call answers.
-use Rattle.std.proofs.Common.{◌≡◌, ◌≢◌, ◌↔◌, ℕ, ◌≤◌, List, [], ◌∷◌, length, refl, subst, ap, ◌∙◌, arith, inl, inr, ◌⊎◌}
+use Rattle.std.proofs.Common.{◌≡◌, ◌≢◌, ◌↔◌, ℕ, ◌≤◌, List, [], ◌∷◌, Some, length, refl, subst, ap, ◌∙◌, arith, inl, inr, ◌⊎◌}
 use Rattle.std.specs.Io.KnownBytes.{Appends}
 use Rattle.lexer.specs.Limits.{longest_source}
 use Rattle.core_program.specs.Core.{Program}
@@ -20,6 +20,7 @@ use Rattle.sources.specs.Refusals.{code_of}
 use Rattle.sources.proofs.Apart.{same_core, same_tree, no_source_is_none}
 use Rattle.sources.specs.Files.{WritesText}
 use Rattle.syntax.specs.Trees.{ProgramTree}
+use Rattle.typing.specs.Programs.{core_of}
 use Rattle.explain_commands.specs.declared.words.Order.TheVariants.{Why}
 use Rattle.explain_commands.specs.Answers.{ExplainAnswer, no_source, judged, IsJudgedProgram, pages_of}
 use Rattle.explain_text.proofs.Chosen.{all_counted}
@@ -27,6 +28,7 @@ use Rattle.explain_text.specs.Arrangements.{ArrangedData, arranged}
 use Rattle.explain_commands.specs.Broken.{broken_methods, ending_for, IsProgramVerdict}
 use Rattle.explain_commands.specs.Explained.{AreTexts, none, more}
 use Rattle.explain_commands.specs.Sentence.{TellsBroken, ExplainsBroken}
+use Rattle.explain_commands.proofs.Placing.{named_there, placed}
 use Rattle.explain_commands.specs.Written.{IsAskedFile, BelongsToFile, too_large, ended}
 use Rattle.explain_commands.proofs.Breaking.{exactly_broken, nothing_explained}
 
@@ -55,9 +57,9 @@ no_lines P rel A pages overs _ _ e none = refl
 no_lines P rel A pages overs _ _ e (more x xs text rest one others) = absurd cc
 
 module _ (call : Call) (name file : List ℕ) where
-  tells : (tree : ProgramTree) (P : Program) (ending : Ending) (text : List ℕ) → IsJudgedProgram Why P (pages_of name file tree) ending text → call.status ≡ code_of ending
+  tells : (tree : ProgramTree) (P : Program) (ending : Ending) (text : List ℕ) → core_of tree ≡ Some P → IsJudgedProgram Why P (pages_of name file tree) ending text → call.status ≡ code_of ending
       → Appends call.written_before call.written_after text → TellsBroken call name file tree P
-  tells tree P ending text j status written =
+  tells tree P ending text core j status written =
       let overs = j.text_is.overs in
       let by_list = two_or_none call.status (broken_methods P j.assignment) (status ∙ ap code_of j.ending_is) in
       let by_rules = as_rules P call.status ending status j.verdict in
@@ -75,6 +77,9 @@ module _ (call : Call) (name file : List ℕ) where
         above = all_above P j.sets j.assignment overs j.typed j.least.relevant j.least.least j.text_is.are_overs;
         reasons = all_reasons P j.sets j.assignment overs j.typed j.least.relevant j.least.least j.text_is.are_overs;
         causes = all_causes P j.sets j.assignment overs j.typed j.least.relevant j.least.least j.text_is.are_overs;
+        places = λ x c method is v named. placed name file tree P core x.method method is v
+            (named_there P (rel_of j.sets) j.assignment (row_at overs x.method) method x.limit x.why v named
+            (all_reasons P j.sets j.assignment overs j.typed j.least.relevant j.least.least j.text_is.are_overs x c method is));
         refused = by_list.0;
         accepted = by_list.1;
         silent = λ zero. no_lines P (rel_of j.sets) j.assignment (pages_of name file tree) (row_at overs)
@@ -93,7 +98,7 @@ module _ (call : Call) (name file : List ℕ) where
   by_answer : (ending : Ending) (text : List ℕ) → ExplainAnswer Why name file ending text → call.status ≡ code_of ending → Appends call.written_before call.written_after text
       → (tree : ProgramTree) (P : Program) → IsWellFormedSource file tree P → TellsBroken call name file tree P
   by_answer _ _ (no_source {ending = ending} {line = line} faulty) status written tree P is = absurd (no_source_is_none file ending _ faulty.refused tree P is)
-  by_answer _ _ (judged {ending = ending} {text = text} its Q are j) status written tree P is = same_source its tree Q P are is (tells its Q ending text j status written)
+  by_answer _ _ (judged {ending = ending} {text = text} its Q are j) status written tree P is = same_source its tree Q P are is (tells its Q ending text are.has_core.core.core j status written)
 
   by_belongs : (status : ℕ) (text : List ℕ) → BelongsToFile Why name file status text → call.status ≡ status → Appends call.written_before call.written_after text → length file ≤ longest_source
       → (tree : ProgramTree) (P : Program) → IsWellFormedSource file tree P → TellsBroken call name file tree P

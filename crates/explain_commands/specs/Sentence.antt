@@ -25,6 +25,7 @@ use Rattle.explain_commands.specs.Answers.{pages_of}
 use Rattle.explain_text.specs.Arrangements.{arranged, told_or_counted}
 use Rattle.explain_commands.specs.Broken.{broken_methods, refused_in}
 use Rattle.explain_commands.specs.Explained.{AreTexts}
+use Rattle.explain_commands.specs.Placed.{IsNamedBy, StandsInPlace}
 use Rattle.explain_commands.specs.Words.{all_word}
 
 -- what the call wrote of the program of a well-formed source
@@ -50,6 +51,9 @@ pub record TellsBroken (call : Call) (name file : List ℕ) (tree : ProgramTree)
   -- and so has each access or call that lacks a lock: the line tells what lacks there
   pub causes : (x : ExplainedData) → Contains (explanations P (rel_of sets) assignment (row_at overs)) x → (v : Visit) → x.why ≡ Wrong v
       → (aliases : List Alias) → IsCause P (rel_of sets) assignment v.held v.part (cause_of P (rel_of sets) aliases v.held v.part)
+  -- the lines of each part that a reason names stand where that stands of which elaboration made the part
+  pub places : (x : ExplainedData) → Contains (explanations P (rel_of sets) assignment (row_at overs)) x → (method : Method) → slice_get P.methods x.method ≡ Some method → (v : Visit) → IsNamedBy x.why v
+      → StandsInPlace tree (pages_of name file tree x.method) x.method method v
   -- status 2 comes exactly where there is one; else it is 0, and nothing is written
   pub refused : (call.status ≡ 2) ↔ (broken_methods P assignment ≢ [])
   pub accepted : (call.status ≡ 0) ↔ (broken_methods P assignment ≡ [])
