@@ -38,8 +38,8 @@ _atomic() {
 _atomic_why() {
     local word=${COMP_WORDS[COMP_CWORD]} first=${COMP_WORDS[1]//[\"\'\\]/}
     if [[ $COMP_CWORD -eq 1 && $word == -* ]]; then
-        _atomic_words "--all"
-    elif [[ $COMP_CWORD -eq 1 || ($COMP_CWORD -eq 2 && $first == --all) ]]; then
+        _atomic_words "--all --strict"
+    elif [[ $COMP_CWORD -eq 1 || ($COMP_CWORD -eq 2 && ($first == --all || $first == --strict)) ]]; then
         _atomic_files java
     fi
 }

@@ -242,6 +242,8 @@ class Completion(InFolder):
             "atomic 'verify' x ": "atomic 'verify' x x.book ",
             "atomic_why --a": "atomic_why --all ",
             "atomic_why --all it": "atomic_why --all it\\'s.java ",
+            "atomic_why --s": "atomic_why --strict ",
+            "atomic_why --strict it": "atomic_why --strict it\\'s.java ",
             'atomic-page "a b.java" ': 'atomic-page "a b.java" a\\ b.schedule ',
             "atomic-page -o out it": "atomic-page -o out it\\'s.java ",
             "atomic-sarif --g": "atomic-sarif --github ",

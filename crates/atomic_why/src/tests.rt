@@ -11,7 +11,7 @@ const LOCKED: &str =
     "class Main { int v guarded_by this; atomic void main() { synchronized (this) { this.v = 7; } } }";
 
 /// What is written for words that ask for nothing.
-const USAGE: &str = "usage: atomic_why FILE.. | --all FILE..\n";
+const USAGE: &str = "usage: atomic_why FILE.. | --all FILE.. | --strict FILE..\n";
 
 /// Sources, each with its status and text: an error, one behind which three methods are errors that call it, two steps, two of which one may
 /// stay, a loop, a compound step with the method that it calls, an overriding method, a lock that would help around all of it, a callee
@@ -67,7 +67,7 @@ static EXPLAINED: [(&str, u8, &str); 11] = [
 ];
 
 /// Words, each with its status and text, where the file `a` is the accepted source.
-static ASKED: [(&[&str], u8, &str); 7] = [
+static ASKED: [(&[&str], u8, &str); 11] = [
     (
         &["--all", "a"],
         0,
@@ -79,21 +79,29 @@ static ASKED: [(&[&str], u8, &str); 7] = [
     (&["a", "a"], 0, ""),
     (&["--all", "--all"], 6, "cannot read --all\n"),
     (&["b"], 6, "cannot read b\n"),
+    (&["--strict", "a"], 0, ""),
+    (&["--strict"], 9, USAGE),
+    (&["a", "--strict"], 9, USAGE),
+    (&["--strict", "--all"], 6, "cannot read --all\n"),
 ];
 
 /// The names of files, each with the source in it.
-static FILES: [(&str, &str); 3] = [
+static FILES: [(&str, &str); 4] = [
     ("a", LOCKED),
     (
         "b",
         "class Main { int v guarded_by this; void main() { this.v = 7; } }",
     ),
     ("c", "class Main { }"),
+    (
+        "e",
+        "class Counter { int n; void inc() { this.n = this.n + 1; } } class Main { void main() { System.out.println(1); System.out.println(2); } }",
+    ),
 ];
 
 /// Words that name some of these files, and one that isn't there, each with its status and text: the worst status, and all lines in the order
-/// of the words.
-static SEVERAL: [(&[&str], u8, &str); 5] = [
+/// of the words. Of the last file one method, which promises nothing, isn't atomic, and neither is `main`.
+static SEVERAL: [(&[&str], u8, &str); 7] = [
     (&["a", "a", "a"], 0, ""),
     (
         &["b", "a"],
@@ -109,6 +117,12 @@ static SEVERAL: [(&[&str], u8, &str); 5] = [
         &["a", "d", "c"],
         6,
         "cannot read d\nc:1:1: error: no main\n",
+    ),
+    (&["e"], 0, ""),
+    (
+        &["--strict", "a", "e"],
+        2,
+        "e:1:29: error: Counter.inc counts as atomic, found cmpd [two-steps]\ne:1:51: note: atomic step: reads this.n, which nothing guards [first-step]\ne:1:37: note: a second one: writes this.n, which nothing guards [second-step]\ne:1:37: note: between the two another thread may come in [gap-between]\ne:1:51: note: no lock helps this step: nothing guards the field [help-unguarded]\ne:1:37: note: no lock helps this step: nothing guards the field [help-unguarded]\n",
     ),
     (
         &["--all", "a", "c"],

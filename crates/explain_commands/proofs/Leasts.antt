@@ -15,7 +15,9 @@ use Rattle.sources.specs.declared.refusal.Ending.{Ending}
 use Rattle.sources.specs.declared.refusal.Ending.TheVariants.{Done, Inadmissible}
 use Rattle.sources.specs.Judged.{IsJudgement, by_nodes}
 use Rattle.sources.specs.Verdicts.{HasLeast}
-use Rattle.explain_commands.specs.Broken.{broken_methods, ending_for, IsProgramVerdict}
+use Rattle.explain_commands.specs.declared.words.Order.TheVariants.{Why}
+use Rattle.explain_commands.specs.Broken.{broken_methods, ending_for}
+use Rattle.explain_commands.specs.Orders.{IsProgramVerdict}
 use Rattle.explain_commands.specs.Least.{IsLeastJudged}
 use Rattle.explain_commands.proofs.Breaking.{none_broken, some_broken}
 
@@ -31,7 +33,7 @@ shown_nodes is nodes trees same = (λ i m H. sym (same_at is nodes m H) i) ∙ a
 
 module _ (P : Program) (sets : List MethodPaths) (is : Items) (nodes : List Node) (r : Result (Unit {0}) Broken) (trees : List Cond) (same : trees ≡ trees_at is nodes)
     (judgement : IsJudgement P sets is nodes r) where
-  judged : (ending : Ending) → ending ≡ ending_for (broken_methods P (by_nodes is nodes)) → IsProgramVerdict P ending → IsLeastJudged P sets trees ending
+  judged : (ending : Ending) → ending ≡ ending_for (broken_methods P (by_nodes is nodes)) → IsProgramVerdict Why P ending → IsLeastJudged P sets trees ending
   judged ending ends verdict =
       let e = shown_nodes is nodes trees same in
       record {

@@ -48,18 +48,18 @@ module _ (told : List ℕ → Option (List ℕ)) (before now : List ℕ → ℕ)
   six : (status : ℕ) (text : List ℕ) → IsExplainOutcome order name told before now status text → status ≡ 6 → IsUnread told before now name × (text ≡ cannot_read_line name)
   six _ _ (unread is) e = (is, refl)
   six _ _ (over is) e = absurd (omega (arith, e))
-  six _ _ (read file ending text is answer) e = absurd (let low = low_code file ending (caused order name file ending text answer) in omega (arith, low, e))
+  six _ _ (read file ending text is answer) e = absurd (let low = low_code order file ending (caused order name file ending text answer) in omega (arith, low, e))
 
   ten : (status : ℕ) (text : List ℕ) → IsExplainOutcome order name told before now status text → status ≡ 10 → IsOver told before now longest_source name × (text ≡ too_large_line name)
   ten _ _ (unread is) e = absurd (omega (arith, e))
   ten _ _ (over is) e = (is, refl)
-  ten _ _ (read file ending text is answer) e = absurd (let low = low_code file ending (caused order name file ending text answer) in omega (arith, low, e))
+  ten _ _ (read file ending text is answer) e = absurd (let low = low_code order file ending (caused order name file ending text answer) in omega (arith, low, e))
 
   -- a status that is none of a file
   none_of : (n : ℕ) → 2 < n → (6 ≡ n → ⊥) → (10 ≡ n → ⊥) → (status : ℕ) (text : List ℕ) → IsExplainOutcome order name told before now status text → status ≡ n → ⊥
   none_of n big six ten _ _ (unread is) e = six e
   none_of n big six ten _ _ (over is) e = ten e
-  none_of n big six ten _ _ (read file ending text is answer) e = let low = low_code file ending (caused order name file ending text answer) in omega (arith, low, big, e)
+  none_of n big six ten _ _ (read file ending text is answer) e = let low = low_code order file ending (caused order name file ending text answer) in omega (arith, low, big, e)
 
   not_seven : (status : ℕ) (text : List ℕ) → IsExplainOutcome order name told before now status text → status ≡ 7 → ⊥
   not_seven = none_of 7 (omega arith) (λ e. omega (arith, e)) (λ e. omega (arith, e))
@@ -210,11 +210,11 @@ module _ (words : List (List ℕ)) (result : ℕ) (told : List ℕ → Option (L
         by (inl s) (inl gone) = inl (inl (s.0 ∙ gone.1))
         by (inl s) (inr a) = inr (record { text = d.text; belongs = subst (λ n. BelongsToFile order name file n d.text) (sym s.0) a; written = s.1 })
 
-    pub exact : IsExactStatusOfFile file result
+    pub exact : IsExactStatusOfFile order file result
     exact = by answered
       where
-        by : IsTroubleStatus result ⊎ WritesText (BelongsToFile order name file result) old new → IsExactStatusOfFile file result
-        by (inl y) = exact_yield file result y
+        by : IsTroubleStatus result ⊎ WritesText (BelongsToFile order name file result) old new → IsExactStatusOfFile order file result
+        by (inl y) = exact_yield order file result y
         by (inr w) = exact_answer order name file result w.text w.belongs
 
     pub front : result ≡ 7 → WritesFrontOf (IsSomeText order name file told before now) old new

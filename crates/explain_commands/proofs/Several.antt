@@ -8,9 +8,9 @@ use Rattle.lexer.specs.Limits.{longest_source}
 use Rattle.sources.specs.Files.{HasSameFaults}
 use Rattle.sources.specs.Refusals.{code_of}
 use Rattle.explain_commands.specs.declared.words.Order.{Order}
-use Rattle.explain_commands.specs.declared.words.Order.TheVariants.{Why, All}
+use Rattle.explain_commands.specs.declared.words.Order.TheVariants.{Why, All, Strict}
 use Rattle.explain_commands.specs.Outcomes.{AreOutcomes, IsExplainOutcome, unread, over, read, no_file, one_file}
-use Rattle.explain_commands.specs.Words.{AsksFor, AsksForAll, HasNoFlag, all_word}
+use Rattle.explain_commands.specs.Words.{AsksFor, AsksForAll, HasNoFlag, IsFlag, all_word, strict_word}
 use Rattle.explain_commands.specs.Worse.{worse}
 use Rattle.explain_commands.specs.Written.{AreAnswers, AreCalm, AreTold, BelongsToFile, no_answer, one_answer, too_large, ended}
 use Rattle.explain_commands.proofs.Worst.{worse_each, worse_first, worse_last, six_first, six_last}
@@ -21,9 +21,10 @@ use Rattle.explain_commands.proofs.Worst.{worse_each, worse_first, worse_last, s
 pub alone : (words : List (List ℕ)) (order : Order) (name : List ℕ) → AsksFor words order name → AsksForAll words order (name ∷ [])
 alone words Why name is = (is.0, λ e. cc, (is.1, tt))
 alone words All name is = (is, λ e. cc)
+alone words Strict name is = (is, λ e. cc)
 
 -- a flag at a place
-pub flag_at : (words : List (String Global)) (i : ℕ) (x : String Global) → i < length words → x ≡ get_or words i x → string_bytes x ≡ all_word → HasNoFlag (map string_bytes (drop i words)) → ⊥
+pub flag_at : (words : List (String Global)) (i : ℕ) (x : String Global) → i < length words → x ≡ get_or words i x → IsFlag (string_bytes x) → HasNoFlag (map string_bytes (drop i words)) → ⊥
 flag_at words i x below is flag none = (subst (λ ys. HasNoFlag (map string_bytes ys)) (next_drop words i x below is) none).0 flag
 
 -- words ask for one thing at most
@@ -31,17 +32,29 @@ pub record Same (order other : Order) (names its : List (List ℕ)) : Type 0 whe
   pub order_is : order ≡ other
   pub names_are : names ≡ its
 
-flagged : (names rest : List (List ℕ)) → names ≡ all_word ∷ rest → HasNoFlag names → ⊥
-flagged names rest is none = (subst HasNoFlag is none).0 refl
+flagged : (word : List ℕ) (names rest : List (List ℕ)) → IsFlag word → names ≡ word ∷ rest → HasNoFlag names → ⊥
+flagged word names rest flag is none = (subst HasNoFlag is none).0 flag
 
-behind : (xs ys : List (List ℕ)) → all_word ∷ xs ≡ all_word ∷ ys → xs ≡ ys
-behind xs ys e = cc
+behind : (x y : List ℕ) (xs ys : List (List ℕ)) → x ∷ xs ≡ y ∷ ys → xs ≡ ys
+behind x y xs ys e = cc
+
+before : (x y : List ℕ) (xs ys : List (List ℕ)) → x ∷ xs ≡ y ∷ ys → x ≡ y
+before x y xs ys e = cc
+
+-- the two flags differ
+apart : all_word ≡ strict_word → ⊥
+apart e = let longer : 5 ≡ 8 = ap length e in omega (arith, longer)
 
 pub one_row : (words : List (List ℕ)) (order other : Order) (names its : List (List ℕ)) → AsksForAll words order names → AsksForAll words other its → Same order other names its
 one_row words Why Why names its a b = record { order_is = refl; names_are = sym a.0 ∙ b.0 }
-one_row words Why All names its a b = absurd (flagged names its (sym a.0 ∙ b.0) a.2)
-one_row words All Why names its a b = absurd (flagged its names (sym b.0 ∙ a.0) b.2)
-one_row words All All names its a b = record { order_is = refl; names_are = behind names its (sym a.0 ∙ b.0) }
+one_row words Why All names its a b = absurd (flagged all_word names its (inl refl) (sym a.0 ∙ b.0) a.2)
+one_row words Why Strict names its a b = absurd (flagged strict_word names its (inr refl) (sym a.0 ∙ b.0) a.2)
+one_row words All Why names its a b = absurd (flagged all_word its names (inl refl) (sym b.0 ∙ a.0) b.2)
+one_row words All All names its a b = record { order_is = refl; names_are = behind all_word all_word names its (sym a.0 ∙ b.0) }
+one_row words All Strict names its a b = absurd (apart (before all_word strict_word names its (sym a.0 ∙ b.0)))
+one_row words Strict Why names its a b = absurd (flagged strict_word its names (inr refl) (sym b.0 ∙ a.0) b.2)
+one_row words Strict All names its a b = absurd (apart (before all_word strict_word its names (sym b.0 ∙ a.0)))
+one_row words Strict Strict names its a b = record { order_is = refl; names_are = behind strict_word strict_word names its (sym a.0 ∙ b.0) }
 
 -- ---- what was found
 

@@ -1,5 +1,5 @@
 -- What is answered to the bytes of a file, from what the stages give.
-use Rattle.std.proofs.Common.{◌≡◌, ◌≤◌, inl, inr, ℕ, List, Some, length, map, ap, subst, ◌∙◌, arith}
+use Rattle.std.proofs.Common.{◌≡◌, ◌≤◌, inl, inr, ℕ, List, Some, length, map, ap, subst, sym, ◌∙◌, arith}
 use Rattle.std.proofs.lemmas.List.{length-map}
 use Rattle.std.proofs.lemmas.Option.{slice_get_cases, slice_get_within}
 use Rattle.classes.specs.Table.{TableData, table_of}
@@ -21,6 +21,8 @@ use Rattle.explain_commands.specs.declared.words.Order.{Order}
 use Rattle.explain_commands.specs.Answers.{ExplainAnswer, judged, IsJudgedProgram, IsText, pages_of}
 use Rattle.explain_commands.specs.Explained.{page_of}
 use Rattle.explain_commands.specs.Least.{IsLeastJudged}
+use Rattle.explain_commands.specs.Orders.{IsProgramVerdict, ending_in}
+use Rattle.explain_commands.proofs.Bounds.{ends_for, verdict_for}
 
 -- each method of the core program is one of the tree
 pub methods_there : (tree : ProgramTree) (P : Program) → core_of tree ≡ Some P → length P.methods ≤ length (methods_in tree)
@@ -40,17 +42,17 @@ found_there tree P members n core same count =
     omega (arith, there, long, count)
 
 -- the text is the one that belongs to a judged source
-pub judged_text : (order : Order) (name : List ℕ) (tree : ProgramTree) (file : List ℕ) (source : Source) (trees : List Cond) (ending : Ending) (text : List ℕ) (table : TableData) (members : List MemberTree)
-    → IsTyped (program_of source.program) → IsLeastJudged (program_of source.program) source.sets trees ending → table ≡ table_of tree → members ≡ map MethodM (methods_in tree)
+pub judged_text : (order : Order) (name : List ℕ) (tree : ProgramTree) (file : List ℕ) (source : Source) (trees : List Cond) (declared ending : Ending) (text : List ℕ) (table : TableData) (members : List MemberTree)
+    → IsTyped (program_of source.program) → IsLeastJudged (program_of source.program) source.sets trees declared → ending ≡ ending_in order (program_of source.program) (shown trees) declared → table ≡ table_of tree → members ≡ map MethodM (methods_in tree)
     → IsText order (program_of source.program) (rel_of source.sets) (shown trees) (page_of name file table members) text
     → IsJudgedProgram order (program_of source.program) (pages_of name file tree) ending text
-judged_text order name tree file source trees ending text table members typed least same found is = record {
+judged_text order name tree file source trees declared ending text table members typed least ends same found is = record {
   sets = source.sets;
   assignment = shown trees;
   typed = typed;
   least = least.least;
-  ending_is = least.ending_is;
-  verdict = least.verdict;
+  ending_is = ends ∙ ends_for order (program_of source.program) (shown trees) declared least.ending_is;
+  verdict = subst (IsProgramVerdict order (program_of source.program)) (sym ends) (verdict_for order (program_of source.program) source.sets (shown trees) declared typed least.least least.verdict);
   text_is = subst (λ t. IsText order (program_of source.program) (rel_of source.sets) (shown trees) (page_of name file t (map MethodM (methods_in tree))) text) same
       (subst (λ ms. IsText order (program_of source.program) (rel_of source.sets) (shown trees) (page_of name file table ms) text) found is);
 }

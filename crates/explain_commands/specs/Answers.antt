@@ -3,7 +3,6 @@ use Rattle.std.specs.Prelude.{◌≡◌, ℕ, List, map}
 use Rattle.classes.specs.Table.{table_of}
 use Rattle.core_program.specs.Core.{Program}
 use Rattle.core_program.specs.Typed.{IsTyped}
-use Rattle.explain.specs.Programs.{explanations}
 use Rattle.explain_text.specs.Pages.{PageData}
 use Rattle.paths.specs.Paths.{PathData}
 use Rattle.places.specs.Sources.{methods_in}
@@ -16,24 +15,26 @@ use Rattle.sources.specs.Checking.{IsWellFormedSource}
 use Rattle.sources.specs.Verdicts.{HasLeast}
 use Rattle.syntax.specs.Trees.{ProgramTree, MethodM}
 use Rattle.explain_commands.specs.declared.words.Order.{Order}
-use Rattle.explain_commands.specs.declared.words.Order.TheVariants.{Why, All}
+use Rattle.explain_commands.specs.declared.words.Order.TheVariants.{Why, All, Strict}
 use Rattle.explain_text.specs.Arrangements.{arranged}
-use Rattle.explain_commands.specs.Broken.{broken_methods, ending_for, IsProgramVerdict}
+use Rattle.explain_commands.specs.Broken.{ending_for}
 use Rattle.explain_commands.specs.Explained.{page_of, AreTexts}
 use Rattle.explain_commands.specs.Faults.{IsSourceFaultLine}
 use Rattle.explain_commands.specs.Listed.{all_lines}
+use Rattle.explain_commands.specs.Orders.{IsProgramVerdict, broken_for, explanations_for}
 
--- the text has the lines of the explanations of a program
-pub record Explains (P : Program) (rel : ℕ → List PathData) (A : Assignment) (pages : ℕ → PageData) (text : List ℕ) : Type 0 where
+-- the text has the lines of the explanations that are asked of a program
+pub record Explains (order : Order) (P : Program) (rel : ℕ → List PathData) (A : Assignment) (pages : ℕ → PageData) (text : List ℕ) : Type 0 where
   -- for each method those that override it
   pub overs : List (List ℕ)
   pub are_overs : AreOverriders P overs
-  pub texts : AreTexts P rel A pages (row_at overs) (arranged P rel (explanations P rel A (row_at overs))) text
+  pub texts : AreTexts P rel A pages (row_at overs) (arranged P rel (explanations_for order P rel A (row_at overs))) text
 
 -- the text that belongs to what is asked for
 abbrev pub IsText : Order → Program → (ℕ → List PathData) → Assignment → (ℕ → PageData) → List ℕ → Type 0
-IsText Why P rel A pages text = Explains P rel A pages text
+IsText Why P rel A pages text = Explains Why P rel A pages text
 IsText All P rel A pages text = text ≡ all_lines P rel A pages
+IsText Strict P rel A pages text = Explains Strict P rel A pages text
 
 -- what the lines of each method of a source are written with
 abbrev pub pages_of : (name file : List ℕ) → ProgramTree → ℕ → PageData
@@ -46,9 +47,9 @@ pub record IsJudgedProgram (order : Order) (P : Program) (pages : ℕ → PageDa
   pub typed : IsTyped P
   pub least : HasLeast P sets assignment
   -- it ends as refused where some method breaks its bound in that assignment, and as done where none does
-  pub ending_is : ending ≡ ending_for (broken_methods P assignment)
+  pub ending_is : ending ≡ ending_for (broken_for order P assignment)
   -- as the rules have it
-  pub verdict : IsProgramVerdict P ending
+  pub verdict : IsProgramVerdict order P ending
   pub text_is : IsText order P (rel_of sets) assignment pages text
 
 -- what is answered to what is asked of a file: the line for one that is no well-formed source; or, of a well-formed source, how its

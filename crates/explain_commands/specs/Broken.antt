@@ -4,7 +4,6 @@ use Rattle.core_program.specs.Core.{Program, Method}
 use Rattle.explain.specs.Programs.{keeps}
 use Rattle.explain.specs.Whys.{ExplainedData}
 use Rattle.rules.specs.Effect.{Assignment}
-use Rattle.rules.specs.Rules.{IsAccepted}
 use Rattle.sources.specs.declared.refusal.Ending.{Ending}
 use Rattle.sources.specs.declared.refusal.Ending.TheVariants.{Done, Inadmissible}
 
@@ -25,9 +24,3 @@ refused_in xs = map (λ x. x.method) (filter (λ x. x.is_refused) xs)
 abbrev pub ending_for : List ℕ → Ending
 ending_for [] = Done
 ending_for (m ∷ ms) = Inadmissible
-
--- what an ending says of a program
-abbrev pub IsProgramVerdict : Program → Ending → Type 0
-IsProgramVerdict P Done = IsAccepted P
-IsProgramVerdict P Inadmissible = IsAccepted P → ⊥
-IsProgramVerdict P _ = ⊥

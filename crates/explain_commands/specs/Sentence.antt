@@ -1,5 +1,6 @@
 -- The sentence that the program is for: each explanation is told or counted, of exactly the methods whose bound the least closed
--- assignment breaks, and status 2 comes exactly where there is one; which is exactly where no assignment of atomicities is admissible.
+-- assignment breaks, and status 2 comes exactly where there is one; which is exactly where no assignment of atomicities is admissible. By
+-- `--strict` the same, of the bounds that methods have where each counts as `atomic` but those that threads begin with.
 use Rattle.std.specs.Prelude.{◌≡◌, ◌≢◌, ◌↔◌, ℕ, ◌≤◌, false, List, [], ◌∷◌, Contains, Some, length, slice_get, ◌⊎◌}
 use Rattle.std.specs.Io.KnownBytes.{Appends}
 use Rattle.lexer.specs.Limits.{longest_source}
@@ -8,28 +9,29 @@ use Rattle.core_program.specs.Core.{Program, Method}
 use Rattle.explain.specs.declared.names.Alias.{Alias}
 use Rattle.explain.specs.Causes.{cause_of}
 use Rattle.explain.specs.Meanings.{IsReasonOf}
-use Rattle.explain.specs.Programs.{explanations}
 use Rattle.explain.specs.Whys.{ExplainedData, Wrong}
 use Rattle.edge.specs.Calls.{Call, HasNoFault}
 use Rattle.reasons.specs.Causing.{IsCause}
 use Rattle.rules.specs.Effect.{Assignment}
 use Rattle.rules.specs.Near.{MethodPaths, rel_of}
 use Rattle.rules.specs.Overriding.{AreOverriders}
-use Rattle.rules.specs.Rules.{IsAccepted}
 use Rattle.rules.specs.Search.{row_at}
 use Rattle.sources.specs.Checking.{IsWellFormedSource}
 use Rattle.sources.specs.Verdicts.{HasLeast}
 use Rattle.syntax.specs.Trees.{ProgramTree}
 use Rattle.explain.specs.Visits.{Visit}
+use Rattle.explain_commands.specs.declared.words.Order.{Order}
+use Rattle.explain_commands.specs.declared.words.Order.TheVariants.{Why, All, Strict}
 use Rattle.explain_commands.specs.Answers.{pages_of}
 use Rattle.explain_text.specs.Arrangements.{arranged, told_or_counted}
-use Rattle.explain_commands.specs.Broken.{broken_methods, refused_in}
+use Rattle.explain_commands.specs.Broken.{refused_in}
 use Rattle.explain_commands.specs.Explained.{AreTexts}
 use Rattle.explain_commands.specs.Placed.{IsNamedBy, StandsInPlace}
-use Rattle.explain_commands.specs.Words.{all_word}
+use Rattle.explain_commands.specs.Orders.{IsAcceptedFor, broken_for, explanations_for}
+use Rattle.explain_commands.specs.Words.{AsksFor}
 
 -- what the call wrote of the program of a well-formed source
-pub record TellsBroken (call : Call) (name file : List ℕ) (tree : ProgramTree) (P : Program) : Type 0 where
+pub record TellsBroken (order : Order) (call : Call) (name file : List ℕ) (tree : ProgramTree) (P : Program) : Type 0 where
   -- the relevant sets of the program, its least closed assignment, and for each method those that override it
   pub sets : List MethodPaths
   pub assignment : Assignment
@@ -38,33 +40,39 @@ pub record TellsBroken (call : Call) (name file : List ℕ) (tree : ProgramTree)
   pub are_overs : AreOverriders P overs
   -- the lines are those of the explanations
   pub text : List ℕ
-  pub texts : AreTexts P (rel_of sets) assignment (pages_of name file tree) (row_at overs) (arranged P (rel_of sets) (explanations P (rel_of sets) assignment (row_at overs))) text
+  pub texts : AreTexts P (rel_of sets) assignment (pages_of name file tree) (row_at overs) (arranged P (rel_of sets) (explanations_for order P (rel_of sets) assignment (row_at overs))) text
   pub written : Appends call.written_before call.written_after text
   -- each explanation is told, or counted at one that is told for the same error of a callee
-  pub counts : told_or_counted (arranged P (rel_of sets) (explanations P (rel_of sets) assignment (row_at overs))) ≡ length (explanations P (rel_of sets) assignment (row_at overs))
+  pub counts : told_or_counted (arranged P (rel_of sets) (explanations_for order P (rel_of sets) assignment (row_at overs))) ≡ length (explanations_for order P (rel_of sets) assignment (row_at overs))
   -- those of refused methods are of exactly the methods whose bound the assignment breaks, in source order
-  pub methods : refused_in (explanations P (rel_of sets) assignment (row_at overs)) ≡ broken_methods P assignment
+  pub methods : refused_in (explanations_for order P (rel_of sets) assignment (row_at overs)) ≡ broken_for order P assignment
   -- each method that is told is more than it may be, also one to which another leads, and has a reason, which is so
-  pub above : (x : ExplainedData) → Contains (explanations P (rel_of sets) assignment (row_at overs)) x → below_of x.found x.limit ≡ false
-  pub reasons : (x : ExplainedData) → Contains (explanations P (rel_of sets) assignment (row_at overs)) x → (method : Method) → slice_get P.methods x.method ≡ Some method
+  pub above : (x : ExplainedData) → Contains (explanations_for order P (rel_of sets) assignment (row_at overs)) x → below_of x.found x.limit ≡ false
+  pub reasons : (x : ExplainedData) → Contains (explanations_for order P (rel_of sets) assignment (row_at overs)) x → (method : Method) → slice_get P.methods x.method ≡ Some method
       → IsReasonOf P (rel_of sets) assignment (row_at overs x.method) method x.limit x.why
   -- and so has each access or call that lacks a lock: the line tells what lacks there
-  pub causes : (x : ExplainedData) → Contains (explanations P (rel_of sets) assignment (row_at overs)) x → (v : Visit) → x.why ≡ Wrong v
+  pub causes : (x : ExplainedData) → Contains (explanations_for order P (rel_of sets) assignment (row_at overs)) x → (v : Visit) → x.why ≡ Wrong v
       → (aliases : List Alias) → IsCause P (rel_of sets) assignment v.held v.part (cause_of P (rel_of sets) aliases v.held v.part)
   -- the lines of each part that a reason names stand where that stands of which elaboration made the part
-  pub places : (x : ExplainedData) → Contains (explanations P (rel_of sets) assignment (row_at overs)) x → (method : Method) → slice_get P.methods x.method ≡ Some method → (v : Visit) → IsNamedBy x.why v
+  pub places : (x : ExplainedData) → Contains (explanations_for order P (rel_of sets) assignment (row_at overs)) x → (method : Method) → slice_get P.methods x.method ≡ Some method → (v : Visit) → IsNamedBy x.why v
       → StandsInPlace tree (pages_of name file tree x.method) x.method method v
   -- status 2 comes exactly where there is one; else it is 0, and nothing is written
-  pub refused : (call.status ≡ 2) ↔ (broken_methods P assignment ≢ [])
-  pub accepted : (call.status ≡ 0) ↔ (broken_methods P assignment ≡ [])
+  pub refused : (call.status ≡ 2) ↔ (broken_for order P assignment ≢ [])
+  pub accepted : (call.status ≡ 0) ↔ (broken_for order P assignment ≡ [])
   pub silent : call.status ≡ 0 → text ≡ []
   -- which is exactly where no assignment is admissible
-  pub inadmissible : (call.status ≡ 2) ↔ (IsAccepted P → ⊥)
-  pub admissible : (call.status ≡ 0) ↔ IsAccepted P
+  pub inadmissible : (call.status ≡ 2) ↔ (IsAcceptedFor order P → ⊥)
+  pub admissible : (call.status ≡ 0) ↔ IsAcceptedFor order P
 
--- where the words are the name of a file that is told and within its limit, and nothing failed: of a well-formed source, unless memory
--- is refused, the call writes that
+-- explanations are asked for
+abbrev pub AsksToExplain : Order → Type 0
+AsksToExplain Why = Unit {0}
+AsksToExplain All = ⊥
+AsksToExplain Strict = Unit {0}
+
+-- where the words ask for the explanations of a file that is told and within its limit, and nothing failed: of a well-formed source, unless
+-- memory is refused, the call writes that
 abbrev pub ExplainsBroken : Call → Type 0
 ExplainsBroken call =
-    (name file : List ℕ) → call.words ≡ name ∷ [] → name ≢ all_word → call.told name ≡ Some file → length file ≤ longest_source → HasNoFault call (name ∷ [])
-    → (tree : ProgramTree) (P : Program) → IsWellFormedSource file tree P → (call.status ≡ 8) ⊎ TellsBroken call name file tree P
+    (order : Order) (name file : List ℕ) → AsksToExplain order → AsksFor call.words order name → call.told name ≡ Some file → length file ≤ longest_source → HasNoFault call (name ∷ [])
+    → (tree : ProgramTree) (P : Program) → IsWellFormedSource file tree P → (call.status ≡ 8) ⊎ TellsBroken order call name file tree P

@@ -5,11 +5,12 @@ use Rattle.edge.specs.Faults.{Rose}
 use Rattle.edge.specs.Lines.{cannot_read_line, too_large_line}
 use Rattle.edge.specs.Said.{Exactly}
 use Rattle.sources.specs.declared.refusal.Ending.{Ending}
-use Rattle.sources.specs.Facts.{IsNotWellFormed, HasNoAssignment, IsAcceptedSource}
+use Rattle.sources.specs.Facts.{IsNotWellFormed}
 use Rattle.sources.specs.Refusals.{code_of}
 use Rattle.sources.specs.Files.{IsUnread, WritesText}
 use Rattle.explain_commands.specs.declared.words.Order.{Order}
 use Rattle.explain_commands.specs.Answers.{ExplainAnswer}
+use Rattle.explain_commands.specs.Orders.{IsAcceptedSourceFor, IsRefusedSourceFor}
 use Rattle.explain_commands.specs.Outcomes.{AreOutcomes}
 use Rattle.explain_commands.specs.Words.{AsksFor}
 use Rattle.explain_commands.specs.Worse.{worse}
@@ -25,12 +26,13 @@ pub data BelongsToFile (order : Order) (name file : List ℕ) : ℕ → List ℕ
   ended : (ending : Ending) (text : List ℕ) → length file ≤ longest_source → ExplainAnswer order name file ending text → BelongsToFile order name file (code_of ending) text
 
 -- which status comes for the bytes of the file: 10 exactly where there are too many; else 1 exactly where they are no well-formed source, 2
--- where they are one for which no assignment is admissible, 0 where they are one for which some assignment is
-pub record IsExactStatusOfFile (file : List ℕ) (result : ℕ) : Type 0 where
+-- where they are one for which no assignment is admissible, 0 where they are one for which some assignment is. By `--strict` each method but
+-- those that threads begin with has to be atomic in that assignment.
+pub record IsExactStatusOfFile (order : Order) (file : List ℕ) (result : ℕ) : Type 0 where
   pub too_large : Exactly result 10 (longest_source < length file)
   pub refused : Exactly result 1 ((length file ≤ longest_source) × IsNotWellFormed file)
-  pub inadmissible : Exactly result 2 ((length file ≤ longest_source) × HasNoAssignment file)
-  pub accepted : Exactly result 0 ((length file ≤ longest_source) × IsAcceptedSource file)
+  pub inadmissible : Exactly result 2 ((length file ≤ longest_source) × IsRefusedSourceFor order file)
+  pub accepted : Exactly result 0 ((length file ≤ longest_source) × IsAcceptedSourceFor order file)
 
 -- the file has bytes, which are those that are told where the folder tells it, and the text that belongs to these and the status was written
 pub record WritesAnswerToFile (order : Order) (name : List ℕ) (told : List ℕ → Option (List ℕ)) (status : ℕ) (old new : Option (List ℕ)) : Type 0 where

@@ -1,11 +1,12 @@
 //! What is answered to the bytes of a source.
 
-ghost use Rattle.std.specs.Prelude.{◌≤◌, ◌^◌, length, map, IfOk, MatchResult, string_bytes};
+ghost use Rattle.std.specs.Prelude.{◌≡◌, ◌≤◌, ◌^◌, length, map, IfOk, MatchResult, string_bytes};
 ghost use Rattle.conditions.specs.Conditions.{cond_of};
 ghost use Rattle.core_program.specs.Views.{program_of};
 ghost use Rattle.explain.specs.Shown.{shown as shown_by};
 ghost use Rattle.explain_commands.specs.Answers.{ExplainAnswer, IsJudgedProgram, IsText, pages_of};
 ghost use Rattle.explain_commands.specs.Explained.{page_of};
+ghost use Rattle.explain_commands.specs.Orders.{ending_in, strict_ending};
 ghost use Rattle.classes.specs.Views.{table_data};
 ghost use Rattle.lexer.specs.Limits.{longest_source};
 ghost use Rattle.rules.specs.Near.{rel_of};
@@ -21,7 +22,7 @@ use crate::listing::listed;
 use crate::told::Told;
 use crate::words::Order;
 use effects::Assigned;
-use explain::{Shown, Walk};
+use explain::{Shown, Walk, keep_strictly};
 use places::{LineIndex, methods_in};
 use sources::{Ending, Refusal, Source, text_of, tree_of, well_formed};
 use std::alloc::{AllocError as NoMemory, Global};
@@ -46,22 +47,49 @@ fn text_for<A: Assigned>(
         (page_of told.now.file.now told.now.index.now (table_data told.now.source.now.table) (map (λ m. member_of m.now) told.now.methods.now.items)) (string_bytes text)) }
 {
     match order {
-        Order::Why => explained(told, walk),
+        Order::Why => explained(Order::Why, told, walk),
         Order::All => listed(told, walk),
+        Order::Strict => explained(Order::Strict, told, walk),
     }
 }
 
-/// The text that is asked for, where these are the trees of a source's least closed assignment and its methods in the tree.
-fn text_of_source<'t, 'p, 'a>(
+/// How it ends by whether all methods keep their bounds.
+fn strict_ending(keep: bool) -> Ending
+    ensures { result ≡ strict_ending keep }
+{
+    if keep {
+        Ending::Done
+    } else {
+        Ending::Inadmissible
+    }
+}
+
+/// How it ends, where it ends so by the bounds that methods declare.
+fn ending_in<A: Assigned>(order: Order, walk: &Walk<'_, A>, declared: Ending) -> Ending
+    requires { length (program_of walk.now.program.now).methods ≤ 2 ^ 32 }
+    ensures { result ≡ ending_in order (program_of walk.now.program.now) (A.Assigned.assigned walk.now.assigned.now) declared }
+{
+    match order {
+        Order::Why => declared,
+        Order::All => declared,
+        Order::Strict => strict_ending(keep_strictly(walk)),
+    }
+}
+
+/// What is said, where these are the trees of a source's least closed assignment and its methods in the tree, and it ends so by the bounds that
+/// methods declare.
+fn said_of_source<'t, 'p, 'a>(
     alloc: Global,
     order: Order,
     told: &Told<'t, 'p, 'a>,
     shown: &Shown<'t>,
-) -> Result<String, NoMemory>
+    declared: Ending,
+) -> Result<Said, NoMemory>
     requires there { length (program_of told.now.source.now.program).methods ≤ length told.now.methods.now.items }
     requires few { length (program_of told.now.source.now.program).methods ≤ 2 ^ 32 }
-    ensures { IfOk result (λ text. IsText order (program_of told.now.source.now.program) (rel_of told.now.source.now.sets) (shown_by (map cond_of shown.now.trees.now))
-        (page_of told.now.file.now told.now.index.now (table_data told.now.source.now.table) (map (λ m. member_of m.now) told.now.methods.now.items)) (string_bytes text)) }
+    ensures text { IfOk result (λ said. IsText order (program_of told.now.source.now.program) (rel_of told.now.source.now.sets) (shown_by (map cond_of shown.now.trees.now))
+        (page_of told.now.file.now told.now.index.now (table_data told.now.source.now.table) (map (λ m. member_of m.now) told.now.methods.now.items)) (string_bytes said.text)) }
+    ensures ending { IfOk result (λ said. said.ending ≡ ending_in order (program_of told.now.source.now.program) (shown_by (map cond_of shown.now.trees.now)) declared) }
 {
     let walk = Walk {
         alloc,
@@ -69,7 +97,11 @@ fn text_of_source<'t, 'p, 'a>(
         sets: &told.source.sets,
         assigned: shown,
     };
-    text_for(order, told, &walk)
+    let text = text_for(order, told, &walk)?;
+    Ok(Said {
+        ending: ending_in(order, &walk, declared),
+        text,
+    })
 }
 
 /// What is said of a well-formed source.
@@ -95,11 +127,8 @@ fn judged<'t, 'p, 'a>(
         source: &*source,
         methods: &methods,
     };
-    let text = text_of_source(alloc, order, &told, &shown)?;
-    Ok(Said {
-        ending: judged.ending,
-        text,
-    })
+    let said = said_of_source(alloc, order, &told, &shown, judged.ending)?;
+    Ok(said)
 }
 
 /// What is said of a text that has this tree, or the refusal of one that is no well-formed source.

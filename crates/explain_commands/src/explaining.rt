@@ -6,15 +6,18 @@ ghost use Rattle.core_program.specs.Views.{program_of};
 ghost use Rattle.explain_commands.specs.Answers.{Explains};
 ghost use Rattle.explain_text.specs.Arrangements.{IsArrangedBlock};
 ghost use Rattle.explain_text.specs.ArrangementViews.{arranged_data};
+ghost use Rattle.explain_commands.specs.Orders.{explanations_for};
 ghost use Rattle.explain_commands.specs.Explained.{AreTexts, AreAmongMethods, aliases_at, page_of, told_of};
+ghost use Rattle.explain.specs.Views.{explained_data};
 ghost use Rattle.rules.specs.Near.{rel_of};
 ghost use Rattle.rules.specs.Search.{row_at};
 ghost use Rattle.syntax.specs.Views.{member_of};
 
 use crate::told::Told;
+use crate::words::Order;
 use core_program::CoreProgram;
 use effects::Assigned;
-use explain::{Alias, Walk, aliases, explanations};
+use explain::{Alias, Explained, Walk, aliases, explanations, strict_explanations};
 use explain_text::{Arranged, Page, arrange, write_arranged};
 use paths::MethodId;
 use places::{method_places, slot_names};
@@ -83,18 +86,35 @@ fn lines_of<A: Assigned>(
     Ok(text)
 }
 
+/// The explanations that are asked for.
+fn explanations_for<'p, A: Assigned>(
+    order: Order,
+    walk: &Walk<'p, A>,
+    over: &OverridingMethods,
+) -> Result<Vec<Explained<'p>>, NoMemory>
+    requires { length (program_of walk.now.program.now).methods ≤ 2 ^ 32 }
+    ensures { IfOk result (λ all. map explained_data all.items ≡ explanations_for order (program_of walk.now.program.now) (rel_of walk.now.sets.now) (A.Assigned.assigned walk.now.assigned.now) (row_at over.now)) }
+{
+    match order {
+        Order::Why => explanations(walk, over),
+        Order::All => explanations(walk, over),
+        Order::Strict => strict_explanations(walk, over),
+    }
+}
+
 /// The explanations of the methods that break their bounds.
 pub(crate) fn explained<A: Assigned>(
+    order: Order,
     told: &Told<'_, '_, '_>,
     walk: &Walk<'_, A>,
 ) -> Result<String, NoMemory>
     requires there { length (program_of walk.now.program.now).methods ≤ length told.now.methods.now.items }
     requires few { length (program_of walk.now.program.now).methods ≤ 2 ^ 32 }
-    ensures { IfOk result (λ text. Explains (program_of walk.now.program.now) (rel_of walk.now.sets.now) (A.Assigned.assigned walk.now.assigned.now)
+    ensures { IfOk result (λ text. Explains order (program_of walk.now.program.now) (rel_of walk.now.sets.now) (A.Assigned.assigned walk.now.assigned.now)
         (page_of told.now.file.now told.now.index.now (table_data told.now.source.now.table) (map (λ m. member_of m.now) told.now.methods.now.items)) (string_bytes text)) }
 {
     let over = overriders(walk.alloc, walk.program)?;
-    let all = explanations(walk, &over)?;
+    let all = explanations_for(order, walk, &over)?;
     let arranged = arrange(walk, all)?;
     lines_of(told, walk, &over, arranged.as_slice())
 }

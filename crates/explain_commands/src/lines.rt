@@ -9,7 +9,7 @@ use edge::joined;
 use std::alloc::{AllocError as NoMemory, Global};
 
 /// What is written for words that ask for nothing.
-pub const USAGE: &[u8] = b"usage: atomic_why FILE.. | --all FILE..\n";
+pub const USAGE: &[u8] = b"usage: atomic_why FILE.. | --all FILE.. | --strict FILE..\n";
 
 /// The line by which `check` refuses a source, in the form of compilers: the file's name, the place, the kind.
 pub fn in_form(alloc: Global, name: &str, line: &str) -> Result<String, NoMemory>

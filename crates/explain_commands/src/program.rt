@@ -104,7 +104,8 @@ fn perform_all<F: Folder>(
 /// Explains what the words name, over this folder and this sink, and answers the exit status.
 ///
 /// The words are the command line without the program's name. Statuses are those of `check`: 0, every method keeps its bound; 1, the
-/// source is refused as it stands; 2, no assignment of atomicities is admissible; 6, the file can't be read; 7, the text can't be written;
+/// source is refused as it stands; 2, no assignment of atomicities is admissible (by `--strict`, none in which each method is atomic but those
+/// that threads begin with); 6, the file can't be read; 7, the text can't be written;
 /// 8, memory was refused; 9, the words ask for nothing; 10, the file is over its limit. Of several files it is the worst of theirs: 6, 10,
 /// 1, 2, 0.
 pub fn run<F: Folder, K: Sink>(alloc: Global, words: &[String], folder: &mut F, sink: &mut K) -> u8
@@ -147,7 +148,7 @@ pub fn run<F: Folder, K: Sink>(alloc: Global, words: &[String], folder: &mut F, 
     ensures opens_none { AsksNothing (map string_bytes words.now) → F.opened folder.new ≡ F.opened folder.old }
 
     // One file that is told: each status comes exactly where its fact holds, and the text is the one that belongs to it.
-    ensures exact { (order : OrderData) (name file : List ℕ) → IsAskedFile (map string_bytes words.now) (F.told folder.old) order name file → IsExactStatusOfFile file result }
+    ensures exact { (order : OrderData) (name file : List ℕ) → IsAskedFile (map string_bytes words.now) (F.told folder.old) order name file → IsExactStatusOfFile order file result }
     ensures text { (order : OrderData) (name file : List ℕ) → IsAskedFile (map string_bytes words.now) (F.told folder.old) order name file →
         IsTroubleStatus result ⊎ WritesText (BelongsToFile order name file result) (K.written sink.old) (K.written sink.new) }
     ensures front { (order : OrderData) (name file : List ℕ) → IsAskedFile (map string_bytes words.now) (F.told folder.old) order name file → result ≡ 7 →

@@ -3,13 +3,14 @@ use Rattle.std.proofs.Common.{◌∙◌, ap, length, map, string_bytes, subst, s
 use Rattle.std.proofs.lemmas.Result.{IfOk-weaker}
 use Rattle.classes.specs.Views.{table_data}
 use Rattle.core_program.specs.Views.{program_of}
-use Rattle.explain.specs.Programs.{explanations}
 use Rattle.explain_commands.specs.Answers.{Explains}
 use Rattle.explain_text.specs.Arrangements.{arranged}
 use Rattle.explain_text.specs.ArrangementViews.{arranged_data}
 use Rattle.explain_commands.specs.Explained.{AreTexts, AreAmongMethods, page_of, told_of}
 use Rattle.explain_commands.proofs.There.{arranged_within}
-use Rattle.explain_commands.proofs.Breaking.{all_there, within_more}
+use Rattle.explain_commands.specs.Orders.{explanations_for}
+use Rattle.explain_commands.proofs.Bounds.{there_for}
+use Rattle.explain_commands.proofs.Breaking.{within_more}
 use Rattle.explain_commands.proofs.Writing.{arranged_in}
 use Rattle.rules.specs.Near.{rel_of}
 use Rattle.rules.specs.Search.{row_at}
@@ -23,9 +24,9 @@ lines_of-requires g c =
     let A = g.A.Assigned.assigned c.args.walk.now.assigned.now in
     let overs = row_at c.in_ok-over.over in
     let n = length c.args.told.now.methods.now.items in
-    let there = within_more (length P.methods) n _ c.requires.there (all_there P rel A overs) in
+    let there = within_more (length P.methods) n _ c.requires.there (there_for P rel A overs c.args.order) in
     let are = arranged_in c.as_slice.result.now c.in_ok-arranged.arranged.items _ c.as_slice.ensures.value (c.in_ok-arranged.ensures ∙ ap (arranged P rel) c.in_ok-all.ensures) in
-    subst (λ xs. AreAmongMethods n (told_of xs)) (sym are) (arranged_within P rel n (explanations P rel A overs) there)
+    subst (λ xs. AreAmongMethods n (told_of xs)) (sym are) (arranged_within P rel n (explanations_for c.args.order P rel A overs) there)
 
 pub returns : goal.returns
 returns g c =
@@ -37,7 +38,7 @@ returns g c =
     let overs = row_at c.in_ok-over.over in
     let pages = page_of told.file.now told.index.now (table_data told.source.now.table) (map (λ m. member_of m.now) told.methods.now.items) in
     let are = arranged_in c.as_slice.result.now c.in_ok-arranged.arranged.items _ c.as_slice.ensures.value (c.in_ok-arranged.ensures ∙ ap (arranged P rel) c.in_ok-all.ensures) in
-    IfOk-weaker c.lines_of.result (λ text. AreTexts P rel A pages overs (map arranged_data c.as_slice.result.now) (string_bytes text)) (λ text. Explains P rel A pages (string_bytes text))
+    IfOk-weaker c.lines_of.result (λ text. AreTexts P rel A pages overs (map arranged_data c.as_slice.result.now) (string_bytes text)) (λ text. Explains c.args.order P rel A pages (string_bytes text))
     (λ text texts. record {
       overs = c.in_ok-over.over;
       are_overs = c.in_ok-over.ensures;

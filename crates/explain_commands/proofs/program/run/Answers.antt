@@ -2,7 +2,6 @@
 use Rattle.std.proofs.Common.{◌≡◌, [], ◌∷◌, ◌∙◌, ap, arith, length, map, string_bytes, subst, refl, inl, sym}
 use Rattle.std.proofs.lemmas.List.{length-map}
 use Rattle.edge.specs.Said.{SaysText}
-use Rattle.explain_commands.specs.declared.words.Order.TheVariants.{Why}
 use Rattle.explain_commands.proofs.Several.{alone, one_row}
 use Rattle.explain_commands.proofs.Runs.{IsDone, cannot_write, never, files, files_complete, files_cut, exact, answered, front, unreadable, over_limit, quiet, to_bytes, cut_short, complete}
 use Rattle.explain_commands.proofs.Telling.{sentence_of, calm_file}
@@ -53,13 +52,13 @@ pub returns-in-Ok-clause-complete : goal.returns-in-Ok-clause-complete
 returns-in-Ok-clause-complete g c = λ order name file asked calm sink_calm. complete _ _ _ _ _ _ _ _ _ (the_row g c) order name file asked calm sink_calm
 
 pub returns-in-Ok-clause-sentence : goal.returns-in-Ok-clause-sentence
-returns-in-Ok-clause-sentence g c = sentence_of _ (λ name file asked calm. complete _ _ _ _ _ _ _ _ _ (the_row g c) Why name file asked (calm_file _ name calm) calm.sink)
+returns-in-Ok-clause-sentence g c = sentence_of _ (λ order name file asked calm. complete _ _ _ _ _ _ _ _ _ (the_row g c) order name file asked (calm_file _ name calm) calm.sink)
 
 pub returns-in-Err-clause-sentence : goal.returns-in-Err-clause-sentence
-returns-in-Err-clause-sentence g c = sentence_of _ (λ name file asked calm. inl refl)
+returns-in-Err-clause-sentence g c = sentence_of _ (λ order name file asked calm. inl refl)
 
 pub returns-in_default-clause-sentence : goal.returns-in_default-clause-sentence
-returns-in_default-clause-sentence g c = sentence_of _ (λ name file asked calm. absurd (c.in_default.ensures Why (name ∷ []) (alone _ Why name asked.is_row)))
+returns-in_default-clause-sentence g c = sentence_of _ (λ order name file asked calm. absurd (c.in_default.ensures order (name ∷ []) (alone _ order name asked.is_row)))
 
 pub returns-in-Ok-clause-cut_short : goal.returns-in-Ok-clause-cut_short
 returns-in-Ok-clause-cut_short g c = λ order name is seven. cut_short _ _ _ _ _ _ _ _ _ (the_row g c) order name is seven

@@ -1,0 +1,134 @@
+-- How it ends, and what is told, by which bounds are asked for.
+use Rattle.std.proofs.Common.{◌≡◌, ℕ, ◌+◌, Bool, true, false, List, [], ◌∷◌, ◌++◌, Contains, Some, if◌then◌else◌, length, slice_get, refl, sym, ap, ◌∙◌}
+use Rattle.std.proofs.lemmas.Option.{slice_get_within}
+use Rattle.algebra.specs.Basics.{below_of}
+use Rattle.core_program.specs.Core.{Program, Method}
+use Rattle.core_program.specs.Typed.{IsTyped}
+use Rattle.explain.specs.declared.names.Alias.{Alias}
+use Rattle.explain.specs.Causes.{cause_of}
+use Rattle.explain.specs.Meanings.{IsReasonOf}
+use Rattle.explain.specs.Programs.{explained}
+use Rattle.explain.specs.Strict.{keep_all, keeps_strictly, strict_bound, strict_from, strictly_broken, strictly_broken_from}
+use Rattle.explain.specs.Visits.{Visit}
+use Rattle.explain.specs.Whys.{ExplainedData, Wrong}
+use Rattle.explain.proofs.Strictly.{none_broken_strictly, none_strict, some_broken_strictly}
+use Rattle.explain.proofs.Telling.{IsRest, rest_first, rest_next, whole}
+use Rattle.paths.specs.Paths.{PathData}
+use Rattle.reasons.specs.Causing.{IsCause}
+use Rattle.reasons.proofs.Strictly.{strictly_above, strictly_causes, strictly_decides, strictly_reasons}
+use Rattle.reasons.proofs.ToldAbove.{all_above, all_causes, all_reasons}
+use Rattle.rules.specs.Effect.{Assignment}
+use Rattle.rules.specs.Near.{MethodPaths, rel_of}
+use Rattle.rules.specs.Overriding.{AreOverriders}
+use Rattle.rules.specs.Search.{row_at}
+use Rattle.sources.specs.declared.refusal.Ending.{Ending}
+use Rattle.sources.specs.declared.refusal.Ending.TheVariants.{Done, Refused, Inadmissible, NoSchedule, Stopped, Open, BookRefused, NothingToBlame, BlameRefused, LevelsRefused, CallTooDeep}
+use Rattle.sources.specs.Verdicts.{HasLeast}
+use Rattle.explain_commands.specs.declared.words.Order.{Order}
+use Rattle.explain_commands.specs.declared.words.Order.TheVariants.{Why, All, Strict}
+use Rattle.explain_commands.specs.Broken.{broken_methods, ending_for, refused_in}
+use Rattle.explain_commands.specs.Explained.{AreAmongMethods}
+use Rattle.explain_commands.specs.Orders.{IsProgramVerdict, broken_for, ending_in, explanations_for, strict_ending}
+use Rattle.explain_commands.proofs.Breaking.{all_there, exactly_broken, nothing_explained}
+
+-- ---- how it ends
+
+ends_by : (ms : List ℕ) → (ms ≡ [] → ⊥) → Inadmissible ≡ ending_for ms
+ends_by [] some = absurd (some refl)
+ends_by (m ∷ ms) some = refl
+
+strict_ends : (P : Program) (A : Assignment) → strict_ending (keep_all P A) ≡ ending_for (strictly_broken P A)
+strict_ends P A = by (keep_all P A) refl
+  where
+    by : (b : Bool) → keep_all P A ≡ b → strict_ending b ≡ ending_for (strictly_broken P A)
+    by true is = ap ending_for (sym (none_broken_strictly P A P.methods 0 is))
+    by false is = ends_by (strictly_broken P A) (some_broken_strictly P A P.methods 0 is)
+
+pub ends_for : (order : Order) (P : Program) (A : Assignment) (declared : Ending) → declared ≡ ending_for (broken_methods P A) → ending_in order P A declared ≡ ending_for (broken_for order P A)
+ends_for Why P A declared is = is
+ends_for All P A declared is = is
+ends_for Strict P A declared is = strict_ends P A
+
+-- a listing asks for the bounds that methods declare
+listed : (P : Program) (ending : Ending) → IsProgramVerdict Why P ending → IsProgramVerdict All P ending
+listed P Done v = v
+listed P Refused v = absurd v
+listed P Inadmissible v = v
+listed P NoSchedule v = absurd v
+listed P Stopped v = absurd v
+listed P Open v = absurd v
+listed P BookRefused v = absurd v
+listed P NothingToBlame v = absurd v
+listed P BlameRefused v = absurd v
+listed P LevelsRefused v = absurd v
+listed P CallTooDeep v = absurd v
+
+pub verdict_for : (order : Order) (P : Program) (sets : List MethodPaths) (A : Assignment) (declared : Ending) → IsTyped P → HasLeast P sets A → IsProgramVerdict Why P declared
+    → IsProgramVerdict order P (ending_in order P A declared)
+verdict_for Why P sets A declared typed least verdict = verdict
+verdict_for All P sets A declared typed least verdict = listed P declared verdict
+verdict_for Strict P sets A declared typed least verdict = by (keep_all P A) refl
+  where
+    by : (b : Bool) → keep_all P A ≡ b → IsProgramVerdict Strict P (strict_ending b)
+    by true is = (strictly_decides P sets A typed least.relevant least.few least.least).0 is
+    by false is = λ accepted. let c : true ≡ false = sym ((strictly_decides P sets A typed least.relevant least.few least.least).1 accepted) ∙ is in cc
+
+-- ---- what is told where each method counts as `atomic`
+
+module _ (P : Program) (rel : ℕ → List PathData) (A : Assignment) (overs : ℕ → List ℕ) where
+  strictly_refused : (methods : List Method) (m : ℕ) → refused_in (strict_from P rel A overs m methods) ≡ strictly_broken_from P A m methods
+  strictly_refused [] m = refl
+  strictly_refused (method ∷ methods) m = by (keeps_strictly P A m method) (strictly_refused methods (m + 1))
+    where
+      by : (b : Bool) → refused_in (strict_from P rel A overs (m + 1) methods) ≡ strictly_broken_from P A (m + 1) methods
+          → refused_in ((if b then [] else explained P rel A overs true (strict_bound P m method) m method ∷ []) ++ strict_from P rel A overs (m + 1) methods)
+          ≡ (if b then strictly_broken_from P A (m + 1) methods else m ∷ strictly_broken_from P A (m + 1) methods)
+      by true rest = rest
+      by false rest = ap (λ ms. m ∷ ms) rest
+
+  strictly_there : (methods : List Method) (m : ℕ) → IsRest P rel A overs m methods → AreAmongMethods (length P.methods) (strict_from P rel A overs m methods)
+  strictly_there [] m r = tt
+  strictly_there (method ∷ methods) m r = by (keeps_strictly P A m method) (strictly_there methods (m + 1) (rest_next P rel A overs m method methods r))
+    where
+      by : (b : Bool) → AreAmongMethods (length P.methods) (strict_from P rel A overs (m + 1) methods)
+          → AreAmongMethods (length P.methods) ((if b then [] else explained P rel A overs true (strict_bound P m method) m method ∷ []) ++ strict_from P rel A overs (m + 1) methods)
+      by true rest = rest
+      by false rest = (slice_get_within P.methods m method (rest_first P rel A overs m method methods r), rest)
+
+  -- ---- by what is asked for
+
+  -- the explanations are of exactly the methods that break their bounds
+  pub exactly_for : (order : Order) → refused_in (explanations_for order P rel A overs) ≡ broken_for order P A
+  exactly_for Why = exactly_broken P rel A overs
+  exactly_for All = exactly_broken P rel A overs
+  exactly_for Strict = strictly_refused P.methods 0
+
+  -- and all their methods are there
+  pub there_for : (order : Order) → AreAmongMethods (length P.methods) (explanations_for order P rel A overs)
+  there_for Why = all_there P rel A overs
+  there_for All = all_there P rel A overs
+  there_for Strict = strictly_there P.methods 0 (whole P rel A overs)
+
+  -- where none breaks its bound, nothing is explained
+  pub nothing_for : (order : Order) → broken_for order P A ≡ [] → explanations_for order P rel A overs ≡ []
+  nothing_for Why none = nothing_explained P rel A overs none
+  nothing_for All none = nothing_explained P rel A overs none
+  nothing_for Strict none = none_strict P rel A overs P.methods 0 none
+
+module _ (P : Program) (sets : List MethodPaths) (A : Assignment) (rows : List (List ℕ)) (typed : IsTyped P) (least : HasLeast P sets A) (are : AreOverriders P rows) where
+  pub above_for : (order : Order) (x : ExplainedData) → Contains (explanations_for order P (rel_of sets) A (row_at rows)) x → below_of x.found x.limit ≡ false
+  above_for Why = all_above P sets A rows typed least.relevant least.least are
+  above_for All = all_above P sets A rows typed least.relevant least.least are
+  above_for Strict = strictly_above P sets A rows typed least.relevant least.least are
+
+  pub reasons_for : (order : Order) (x : ExplainedData) → Contains (explanations_for order P (rel_of sets) A (row_at rows)) x → (method : Method) → slice_get P.methods x.method ≡ Some method
+      → IsReasonOf P (rel_of sets) A (row_at rows x.method) method x.limit x.why
+  reasons_for Why = all_reasons P sets A rows typed least.relevant least.least are
+  reasons_for All = all_reasons P sets A rows typed least.relevant least.least are
+  reasons_for Strict = strictly_reasons P sets A rows typed least.relevant least.least are
+
+  pub causes_for : (order : Order) (x : ExplainedData) → Contains (explanations_for order P (rel_of sets) A (row_at rows)) x → (v : Visit) → x.why ≡ Wrong v → (aliases : List Alias)
+      → IsCause P (rel_of sets) A v.held v.part (cause_of P (rel_of sets) aliases v.held v.part)
+  causes_for Why = all_causes P sets A rows typed least.relevant least.least are
+  causes_for All = all_causes P sets A rows typed least.relevant least.least are
+  causes_for Strict = strictly_causes P sets A rows typed least.relevant least.least are
