@@ -27,9 +27,9 @@ ABOUT = """Writes a schedule that shows what a refused method does wrong, as `at
         so, or at least none with the same entries.
 
 What it shows stands in comments, so `atomic run FILE` takes the text as a schedule."""
-BEHIND = """The status is 0 where a promise is broken, 1 where `atomic_witness` finds no such schedule, 2 where no method
-         is refused or the words are wrong, and 3 where something failed. That none was found doesn't mean that the
-         method keeps its promise."""
+BEHIND = """The status is 0 where a promise is broken, 1 where `atomic_witness` finds no such schedule, 2 where no
+         method is refused or the words are wrong, and 3 where something failed. That none was found doesn't mean
+         that the method keeps its promise."""
 
 
 def beside(columns: list[list[str]]) -> list[str]:

@@ -17,12 +17,12 @@ is_run m None = false
 is_run m (Some k) = k == m
 
 -- whether a thread begins with a method: it is `main` of the class `Main`, or it runs for `run` of a class that is `Runnable`
-abbrev pub is_entry : Program → ℕ → Bool
-is_entry P m = (m == P.main) || list_any (λ c. is_run m c.run) P.classes
+abbrev pub is_thread_entry : Program → ℕ → Bool
+is_thread_entry P m = (m == P.main) || list_any (λ c. is_run m c.run) P.classes
 
 -- the greatest basic that a method may have where each counts as `atomic`; one that a thread begins with may have what it declares
 abbrev pub strict_bound : Program → ℕ → Method → Basic
-strict_bound P m method = declared_bound (method.annotated || not (is_entry P m))
+strict_bound P m method = declared_bound (method.annotated || not (is_thread_entry P m))
 
 -- whether a method keeps that bound
 abbrev pub keeps_strictly : Program → Assignment → ℕ → Method → Bool

@@ -5,7 +5,7 @@ ghost use Rattle.std.specs.List.{list_any};
 ghost use Rattle.core_program.specs.Views.{core_class_of, method_of, program_of};
 ghost use Rattle.rules.specs.Near.{rel_of};
 ghost use Rattle.rules.specs.Search.{row_at};
-ghost use Rattle.explain.specs.Strict.{is_entry, is_run, keep_all, keeps_strictly, strict_bound, strict_explanations, strictly_told};
+ghost use Rattle.explain.specs.Strict.{is_thread_entry, is_run, keep_all, keeps_strictly, strict_bound, strict_explanations, strictly_told};
 ghost use Rattle.explain.specs.Views.{explained_data};
 
 use crate::program::{Explained, explain_method};
@@ -40,8 +40,8 @@ fn runs(id: MethodId, classes: &[CoreClass]) -> bool
 }
 
 /// Whether a thread begins with this method.
-fn is_entry(program: &CoreProgram, id: MethodId) -> bool
-    ensures { result ≡ is_entry (program_of program.now) id }
+fn is_thread_entry(program: &CoreProgram, id: MethodId) -> bool
+    ensures { result ≡ is_thread_entry (program_of program.now) id }
 {
     id == program.main || runs(id, program.classes())
 }
@@ -50,7 +50,7 @@ fn is_entry(program: &CoreProgram, id: MethodId) -> bool
 fn strict_bound(program: &CoreProgram, id: MethodId, method: &CoreMethod) -> Basic
     ensures { result ≡ strict_bound (program_of program.now) id (method_of method.now) }
 {
-    bound_of(method.annotated || !is_entry(program, id))
+    bound_of(method.annotated || !is_thread_entry(program, id))
 }
 
 /// Whether a method has no more.

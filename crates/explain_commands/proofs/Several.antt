@@ -10,7 +10,7 @@ use Rattle.sources.specs.Refusals.{code_of}
 use Rattle.explain_commands.specs.declared.words.Order.{Order}
 use Rattle.explain_commands.specs.declared.words.Order.TheVariants.{Why, All, Strict}
 use Rattle.explain_commands.specs.Outcomes.{AreOutcomes, IsExplainOutcome, unread, over, read, no_file, one_file}
-use Rattle.explain_commands.specs.Words.{AsksFor, AsksForAll, HasNoFlag, IsFlag, all_word, strict_word}
+use Rattle.explain_commands.specs.Words.{AsksFor, AsksForAll, HasNoFlag, IsFlagWord, all_word, strict_word}
 use Rattle.explain_commands.specs.Worse.{worse}
 use Rattle.explain_commands.specs.Written.{AreAnswers, AreCalm, AreTold, BelongsToFile, no_answer, one_answer, too_large, ended}
 use Rattle.explain_commands.proofs.Worst.{worse_each, worse_first, worse_last, six_first, six_last}
@@ -24,7 +24,7 @@ alone words All name is = (is, λ e. cc)
 alone words Strict name is = (is, λ e. cc)
 
 -- a flag at a place
-pub flag_at : (words : List (String Global)) (i : ℕ) (x : String Global) → i < length words → x ≡ get_or words i x → IsFlag (string_bytes x) → HasNoFlag (map string_bytes (drop i words)) → ⊥
+pub flag_at : (words : List (String Global)) (i : ℕ) (x : String Global) → i < length words → x ≡ get_or words i x → IsFlagWord (string_bytes x) → HasNoFlag (map string_bytes (drop i words)) → ⊥
 flag_at words i x below is flag none = (subst (λ ys. HasNoFlag (map string_bytes ys)) (next_drop words i x below is) none).0 flag
 
 -- words ask for one thing at most
@@ -32,7 +32,7 @@ pub record Same (order other : Order) (names its : List (List ℕ)) : Type 0 whe
   pub order_is : order ≡ other
   pub names_are : names ≡ its
 
-flagged : (word : List ℕ) (names rest : List (List ℕ)) → IsFlag word → names ≡ word ∷ rest → HasNoFlag names → ⊥
+flagged : (word : List ℕ) (names rest : List (List ℕ)) → IsFlagWord word → names ≡ word ∷ rest → HasNoFlag names → ⊥
 flagged word names rest flag is none = (subst HasNoFlag is none).0 flag
 
 behind : (x y : List ℕ) (xs ys : List (List ℕ)) → x ∷ xs ≡ y ∷ ys → xs ≡ ys

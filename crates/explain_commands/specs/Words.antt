@@ -17,13 +17,13 @@ abbrev pub strict_word : List ℕ
 strict_word = codes "--strict"
 
 -- one of the two
-abbrev pub IsFlag : List ℕ → Type 0
-IsFlag word = (word ≡ all_word) ⊎ (word ≡ strict_word)
+abbrev pub IsFlagWord : List ℕ → Type 0
+IsFlagWord word = (word ≡ all_word) ⊎ (word ≡ strict_word)
 
 -- none of these is one
 abbrev pub HasNoFlag : List (List ℕ) → Type 0
 HasNoFlag [] = Unit {0}
-HasNoFlag (name ∷ names) = (IsFlag name → ⊥) × HasNoFlag names
+HasNoFlag (name ∷ names) = (IsFlagWord name → ⊥) × HasNoFlag names
 
 -- the words ask for this of the files of these names, of which there is at least one: they are the names alone, of which none is `--all` or
 -- `--strict`; or `--all` and the names; or `--strict` and the names
@@ -35,7 +35,7 @@ AsksForAll words Strict names = (words ≡ strict_word ∷ names) × (names ≢ 
 -- the words ask for this of the file of this name alone: they are the name, which is neither word; or `--all` and the name; or `--strict` and
 -- the name
 abbrev pub AsksFor : List (List ℕ) → Order → List ℕ → Type 0
-AsksFor words Why name = (words ≡ name ∷ []) × (IsFlag name → ⊥)
+AsksFor words Why name = (words ≡ name ∷ []) × (IsFlagWord name → ⊥)
 AsksFor words All name = words ≡ all_word ∷ name ∷ []
 AsksFor words Strict name = words ≡ strict_word ∷ name ∷ []
 

@@ -2,7 +2,7 @@
 
 ghost use Rattle.std.specs.Prelude.{◌≡◌, ◌≢◌, ℕ, [], List, true, false, map, MatchOption, string_bytes};
 ghost use Rattle.explain_commands.specs.declared.words.Order.TheVariants as order;
-ghost use Rattle.explain_commands.specs.Words.{AsksForAll, AsksNothing, HasNoFlag, IsFlag, all_word, strict_word};
+ghost use Rattle.explain_commands.specs.Words.{AsksForAll, AsksNothing, HasNoFlag, IsFlagWord, all_word, strict_word};
 
 /// What is asked of sources.
 #[derive(Clone, Copy, Debug, PartialEq, Eq)]
@@ -39,8 +39,8 @@ fn is_strict(word: &str) -> bool
 
 /// Whether a word is one of the two.
 fn is_flag(word: &str) -> bool
-    ensures yes { result ≡ true → IsFlag word.now }
-    ensures no { result ≡ false → IsFlag word.now → ⊥ }
+    ensures yes { result ≡ true → IsFlagWord word.now }
+    ensures no { result ≡ false → IsFlagWord word.now → ⊥ }
 {
     if is_all(word) {
         return true;

@@ -20,7 +20,7 @@ use Rattle.explain.specs.declared.names.Alias.{Alias}
 use Rattle.explain.specs.Causes.{cause_of}
 use Rattle.explain.specs.Meanings.{IsReasonOf}
 use Rattle.explain.specs.Programs.{explained, found_of}
-use Rattle.explain.specs.Strict.{IsStrictlyAccepted, is_entry, keep_all, strict_bound, strict_explanations}
+use Rattle.explain.specs.Strict.{IsStrictlyAccepted, is_thread_entry, keep_all, strict_bound, strict_explanations}
 use Rattle.explain.specs.Whys.{ExplainedData, Wrong}
 use Rattle.explain.proofs.Strictly.{all_kept, all_strictly_told, kept_at}
 use Rattle.reasons.specs.Causing.{IsCause}
@@ -46,7 +46,7 @@ module _ (P : Program) (sets : List MethodPaths) (A : Assignment) (rows : List (
       let is = subst (λ n. x ≡ explained P rel A overs true (strict_bound P x.method n) x.method n) same told.is in
       let above = subst (λ n. below_of (found_of A x.method n) (strict_bound P x.method n) ≡ false) same told.above in
       subst (λ y. IsReasonOf P rel A (overs y.method) method y.limit y.why) (sym is)
-      (reasoned P sets A rows typed relevant least are x.method method there limit (bound_atomic (method.annotated || not (is_entry P x.method))) above)
+      (reasoned P sets A rows typed relevant least are x.method method there limit (bound_atomic (method.annotated || not (is_thread_entry P x.method))) above)
 
   pub strictly_causes : (x : ExplainedData) → Contains (strict_explanations P rel A overs) x → (v : Visit) → x.why ≡ Wrong v → (aliases : List Alias) → IsCause P rel A v.held v.part (cause_of P rel aliases v.held v.part)
   strictly_causes x c v why aliases =

@@ -18,7 +18,7 @@ use Rattle.semantics.specs.Run.{Runs, open_thread}
 use Rattle.schedule_commands.specs.Schedules.{NoOrder, no_run, open_call, HasInput, IsWellFormedText, IsNoSchedule, LeavesCallOpen, EndsOutside}
 use Rattle.schedule_commands.proofs.ScheduleEndings.{runs_to, inputs_apart, no_source_input, no_schedule_input, refused_text, refused_run}
 use Rattle.witness_commands.specs.Answers.{RefusesInput, no_source, no_schedule, no_end, IsToldOfSchedule, kept, broken, undecided, AnswersSchedule, refused, told, IsKeptEnd, IsWitnessOf}
-use Rattle.witness_commands.specs.Reading.{AreWithin}
+use Rattle.witness_commands.specs.Reading.{AreInputsWithin}
 use Rattle.witness_commands.specs.Written.{Decides, IsExactVerdict}
 
 -- a witness in any sense is one by objects and output
@@ -82,21 +82,21 @@ decided status fact f = record { only = λ e. f; all = λ g. inl refl }
 pub open_end : (status : ℕ) (fact : Type 0) → (16 ≡ status → ⊥) → Decides 16 status fact
 open_end status fact other = record { only = λ e. absurd (other e); all = λ g. inr (inl refl) }
 
-both_over : (file text : List ℕ) → (longest_source < length file) ⊎ (longest_second_file < length text) → AreWithin file (Some text) → ⊥
+both_over : (file text : List ℕ) → (longest_source < length file) ⊎ (longest_second_file < length text) → AreInputsWithin file (Some text) → ⊥
 both_over file text (inl over) within = omega (arith, over, within.0)
 both_over file text (inr over) within = let short : length text ≤ longest_second_file = within.1 in omega (arith, over, short)
 
-module _ (file text : List ℕ) (within : AreWithin file (Some text)) where
+module _ (file text : List ℕ) (within : AreInputsWithin file (Some text)) where
   large : (status : ℕ) → (status ≡ 10 → ⊥) → Exactly status 10 ((longest_source < length file) ⊎ (longest_second_file < length text))
   large status other = never status 10 _ other (λ over. both_over file text over within)
 
-  no_input : (F : Program → List ℕ → Type 0) → IsNotWellFormed file → AreWithin file (Some text) × HasInput file text F → ⊥
+  no_input : (F : Program → List ℕ → Type 0) → IsNotWellFormed file → AreInputsWithin file (Some text) × HasInput file text F → ⊥
   no_input F none h = no_source_input file text F h.1 none
 
-  no_text : (F : Program → List ℕ → Type 0) → IsNoSchedule text → AreWithin file (Some text) × HasInput file text F → ⊥
+  no_text : (F : Program → List ℕ → Type 0) → IsNoSchedule text → AreInputsWithin file (Some text) × HasInput file text F → ⊥
   no_text F none h = no_schedule_input file text F h.1 none
 
-  apart : (F G : Program → List ℕ → Type 0) → ((P : Program) (s : List ℕ) → F P s → G P s → ⊥) → HasInput file text F → AreWithin file (Some text) × HasInput file text G → ⊥
+  apart : (F G : Program → List ℕ → Type 0) → ((P : Program) (s : List ℕ) → F P s → G P s → ⊥) → HasInput file text F → AreInputsWithin file (Some text) × HasInput file text G → ⊥
   apart F G not f g = inputs_apart file text F G not f g.1
 
   exact_refused : IsNotWellFormed file → IsExactVerdict file text 1
@@ -124,10 +124,10 @@ module _ (file text : List ℕ) (within : AreWithin file (Some text)) where
   }
 
   -- of a source and a schedule: it is neither refused nor the text of none
-  not_refused : (status : ℕ) (F : Program → List ℕ → Type 0) → HasInput file text F → (status ≡ 1 → ⊥) → Exactly status 1 (AreWithin file (Some text) × IsNotWellFormed file)
+  not_refused : (status : ℕ) (F : Program → List ℕ → Type 0) → HasInput file text F → (status ≡ 1 → ⊥) → Exactly status 1 (AreInputsWithin file (Some text) × IsNotWellFormed file)
   not_refused status F h other = never status 1 _ other (λ g. no_source_input file text F h g.1)
 
-  is_schedule : (status : ℕ) (F : Program → List ℕ → Type 0) → HasInput file text F → (status ≡ 3 → ⊥) → Exactly status 3 (AreWithin file (Some text) × IsWellFormedText file × IsNoSchedule text)
+  is_schedule : (status : ℕ) (F : Program → List ℕ → Type 0) → HasInput file text F → (status ≡ 3 → ⊥) → Exactly status 3 (AreInputsWithin file (Some text) × IsWellFormedText file × IsNoSchedule text)
   is_schedule status F h other = never status 3 _ other (λ g. no_schedule_input file text F h g.2)
 
   exact_stopped : HasInput file text IsStuck → IsExactVerdict file text 4
@@ -156,11 +156,11 @@ module _ (file text : List ℕ) (within : AreWithin file (Some text)) where
 
   -- of a schedule that ends with no thread inside an atomic call: it doesn't stop, nor end inside
   runs_whole : (status : ℕ) (F : Program → List ℕ → Type 0) → ((P : Program) (s : List ℕ) → F P s → EndsOutside P s) → HasInput file text F → (status ≡ 4 → ⊥)
-      → Exactly status 4 (AreWithin file (Some text) × HasInput file text IsStuck)
+      → Exactly status 4 (AreInputsWithin file (Some text) × HasInput file text IsStuck)
   runs_whole status F out h other = never status 4 _ other (apart F IsStuck (λ P s a b. stuck_or_outside P s b (out P s a)) h)
 
   ends_outside : (status : ℕ) (F : Program → List ℕ → Type 0) → ((P : Program) (s : List ℕ) → F P s → EndsOutside P s) → HasInput file text F → (status ≡ 5 → ⊥)
-      → Exactly status 5 (AreWithin file (Some text) × HasInput file text LeavesCallOpen)
+      → Exactly status 5 (AreInputsWithin file (Some text) × HasInput file text LeavesCallOpen)
   ends_outside status F out h other = never status 5 _ other (apart F LeavesCallOpen (λ P s a b. inside_or_outside P s b (out P s a)) h)
 
   exact_kept : HasInput file text IsKeptEnd → IsExactVerdict file text 0

@@ -7,7 +7,7 @@ use Rattle.edge.specs.declared.transfer.ReadEnd.{ReadEnd}
 use Rattle.edge.specs.declared.transfer.ReadEnd.TheVariants.{Fault, TooLarge, NoMemory}
 use Rattle.edge.specs.Faults.{Rose}
 use Rattle.witness_commands.specs.Outcomes.{IsWitnessOutcome, IsUnreadLine, unread, over}
-use Rattle.witness_commands.specs.Reading.{AreBytesOf, AreRead, IsSourceWithin, IsFirstUnread, IsFirstOver, source_unread, schedule_unread, source_over, schedule_over}
+use Rattle.witness_commands.specs.Reading.{AreBytesOf, AreInputsRead, IsSourceWithin, IsFirstUnreadInput, IsFirstTooLargeInput, source_unread, schedule_unread, source_over, schedule_over}
 
 -- What the reading of a file of this name says at its end.
 pub record Ends (told : List ℕ → Option (List ℕ)) (before now : List ℕ → ℕ) (limit : ℕ) (name : List ℕ) (end : ReadEnd) : Type 0 where
@@ -28,7 +28,7 @@ earlier told after before mid now limit name end same calm e = record {
 
 module _ (told : List ℕ → Option (List ℕ)) (before now : List ℕ → ℕ) (source : List ℕ) (schedule : Option (List ℕ)) where
   line_of : (limit : ℕ) (name : List ℕ) (end : ReadEnd) (status : ℕ) (line : List ℕ) → Ends told before now limit name end
-      → (IsUnread told before now name → IsFirstUnread told before now source schedule name) → (IsOver told before now limit name → IsFirstOver told before now source schedule name)
+      → (IsUnread told before now name → IsFirstUnreadInput told before now source schedule name) → (IsOver told before now limit name → IsFirstTooLargeInput told before now source schedule name)
       → IsUnreadLine name end status line → IsWitnessOutcome source schedule told before now status line
   line_of limit name Fault status line e first large says =
       subst (λ n. IsWitnessOutcome source schedule told before now n line) (sym says.0) (subst (IsWitnessOutcome source schedule told before now 6) (sym says.1)
@@ -55,7 +55,7 @@ told_within (Some file) bytes limit is within = subst (λ b. length b ≤ limit)
 
 -- both files were read
 pub both_read : (told after : List ℕ → Option (List ℕ)) (before mid now : List ℕ → ℕ) (source schedule file text : List ℕ) → ((other : List ℕ) → after other ≡ told other) → HasSameFaults before mid → HasSameFaults mid now
-    → AreBytesOf told source file → AreBytesOf after schedule text → length file ≤ longest_source → length text ≤ longest_second_file → AreRead told before now source (Some schedule) file (Some text)
+    → AreBytesOf told source file → AreBytesOf after schedule text → length file ≤ longest_source → length text ≤ longest_second_file → AreInputsRead told before now source (Some schedule) file (Some text)
 both_read told after before mid now source schedule file text same first second one other small short = record {
   source_is = one;
   schedule_is = subst (λ o. IfSome o (λ bytes. text ≡ bytes)) (same schedule) other;
@@ -65,5 +65,5 @@ both_read told after before mid now source schedule file text same first second 
 
 -- the source was read, and no schedule is given
 pub source_read : (told : List ℕ → Option (List ℕ)) (before now : List ℕ → ℕ) (source file : List ℕ) → HasSameFaults before now → AreBytesOf told source file → length file ≤ longest_source
-    → AreRead told before now source None file None
+    → AreInputsRead told before now source None file None
 source_read told before now source file calm is small = record { source_is = is; schedule_is = tt; within = (small, tt); quiet = calm }

@@ -10,7 +10,7 @@ use Rattle.edge.specs.Faults.{Rose}
 use Rattle.edge.specs.Lines.{cannot_read_line, too_large_line}
 use Rattle.edge.specs.Said.{SaysText, IsTroubleStatus}
 use Rattle.witness_commands.specs.Outcomes.{IsWitnessOutcome, unread, over, read}
-use Rattle.witness_commands.specs.Reading.{AreBytesOf, OfSchedule, IsFirstUnread, source_unread, schedule_unread, IsFirstOver, source_over, schedule_over}
+use Rattle.witness_commands.specs.Reading.{AreBytesOf, OfSchedule, IsFirstUnreadInput, source_unread, schedule_unread, IsFirstTooLargeInput, source_over, schedule_over}
 use Rattle.witness_commands.specs.Words.{NamesFiles}
 use Rattle.witness_commands.specs.Written.{IsAsked, BelongsToFiles, source_large, schedule_large, answered as belongs_answer, IsExact, WritesAnswerToFiles, IsSomeTextOfFiles, some_unread, some_answer}
 use Rattle.witness_commands.proofs.SearchEndings.{exact_answer, exact_yield, not_between}
@@ -102,13 +102,13 @@ pub record IsDone (words : List (List ℕ)) (result : ℕ) (told : List ℕ → 
 module _ (told : List ℕ → Option (List ℕ)) (before now : List ℕ → ℕ) (source : List ℕ) (schedule : Option (List ℕ)) where
   -- the status of an outcome
   six : (status : ℕ) (out : List ℕ) → IsWitnessOutcome source schedule told before now status out → status ≡ 6
-      → (name : List ℕ) × IsFirstUnread told before now source schedule name × (out ≡ cannot_read_line name)
+      → (name : List ℕ) × IsFirstUnreadInput told before now source schedule name × (out ≡ cannot_read_line name)
   six _ _ (unread name is) e = (name, is, refl)
   six _ _ (over name is) e = absurd (omega (arith, e))
   six _ _ (read {status = status} {out = out} file text is answer) e = absurd (not_between file text status out answer (omega (arith, e), omega (arith, e)))
 
   ten : (status : ℕ) (out : List ℕ) → IsWitnessOutcome source schedule told before now status out → status ≡ 10
-      → (name : List ℕ) × IsFirstOver told before now source schedule name × (out ≡ too_large_line name)
+      → (name : List ℕ) × IsFirstTooLargeInput told before now source schedule name × (out ≡ too_large_line name)
   ten _ _ (unread name is) e = absurd (omega (arith, e))
   ten _ _ (over name is) e = (name, is, refl)
   ten _ _ (read {status = status} {out = out} file text is answer) e = absurd (not_between file text status out answer (omega (arith, e), omega (arith, e)))
@@ -124,7 +124,7 @@ module _ (told : List ℕ → Option (List ℕ)) (before now : List ℕ → ℕ)
   none_between _ _ (over name is) low high = omega (arith, high)
   none_between _ _ (read {status = status} {out = out} file text is answer) low high = not_between file text status out answer (omega (arith, low), omega (arith, high))
 
-  over_quiet : (name : List ℕ) → IsFirstOver told before now source schedule name → HasSameFaults before now
+  over_quiet : (name : List ℕ) → IsFirstTooLargeInput told before now source schedule name → HasSameFaults before now
   over_quiet _ (source_over is) = is.quiet
   over_quiet _ (schedule_over name named small is) = is.quiet
 
@@ -141,7 +141,7 @@ module _ (told : List ℕ → Option (List ℕ)) (before now : List ℕ → ℕ)
     schedule_is : OfSchedule (AreBytesOf told) schedule text
     belongs : BelongsToFiles source schedule file text status out
 
-  over_bytes : (name : List ℕ) → IsFirstOver told before now source schedule name → IsToBytes 10 (too_large_line name)
+  over_bytes : (name : List ℕ) → IsFirstTooLargeInput told before now source schedule name → IsToBytes 10 (too_large_line name)
   over_bytes _ (source_over is) =
       let some = some_over (told source) longest_source is.over in
       let any = any_text told schedule in
@@ -161,9 +161,9 @@ module _ (told : List ℕ → Option (List ℕ)) (before now : List ℕ → ℕ)
   -- of files that are told: that one can't be read, or what belongs to their bytes
   module _ (file : List ℕ) (text : Option (List ℕ)) (source_told : told source ≡ Some file) (schedule_told : IsTold told schedule text) where
     abbrev Unreadable : ℕ → List ℕ → Type 0
-    Unreadable status out = (name : List ℕ) × IsFirstUnread told before now source schedule name × (status ≡ 6) × (out ≡ cannot_read_line name)
+    Unreadable status out = (name : List ℕ) × IsFirstUnreadInput told before now source schedule name × (status ≡ 6) × (out ≡ cannot_read_line name)
 
-    over_belongs : (name : List ℕ) → IsFirstOver told before now source schedule name → BelongsToFiles source schedule file text 10 (too_large_line name)
+    over_belongs : (name : List ℕ) → IsFirstTooLargeInput told before now source schedule name → BelongsToFiles source schedule file text 10 (too_large_line name)
     over_belongs _ (source_over is) = source_large (told_fact (λ f. longest_source < length f) (told source) file source_told is.over)
     over_belongs _ (schedule_over name named small is) =
         let its = told_text told schedule text name named schedule_told in
@@ -213,19 +213,19 @@ module _ (words : List (List ℕ)) (result : ℕ) (told : List ℕ → Option (L
 
   -- a file that can't be read
   pub unreadable : (source : List ℕ) (schedule : Option (List ℕ)) → NamesFiles words source schedule → result ≡ 6
-      → (name : List ℕ) × IsFirstUnread told before now source schedule name × Appends old new (cannot_read_line name)
+      → (name : List ℕ) × IsFirstUnreadInput told before now source schedule name × Appends old new (cannot_read_line name)
   unreadable source schedule is e = by d.said
     where
-      by : Said → (name : List ℕ) × IsFirstUnread told before now source schedule name × Appends old new (cannot_read_line name)
+      by : Said → (name : List ℕ) × IsFirstUnreadInput told before now source schedule name × Appends old new (cannot_read_line name)
       by (inr s) = absurd (omega (arith, s.0, e))
       by (inl s) = let p = six told before now source schedule d.status d.out (its source schedule is) (sym s.0 ∙ e) in (p.0, p.1, subst (Appends old new) p.2 s.1)
 
   -- a file that is over its limit
   pub over_limit : (source : List ℕ) (schedule : Option (List ℕ)) → NamesFiles words source schedule → result ≡ 10
-      → (name : List ℕ) × IsFirstOver told before now source schedule name × Appends old new (too_large_line name)
+      → (name : List ℕ) × IsFirstTooLargeInput told before now source schedule name × Appends old new (too_large_line name)
   over_limit source schedule is e = by d.said
     where
-      by : Said → (name : List ℕ) × IsFirstOver told before now source schedule name × Appends old new (too_large_line name)
+      by : Said → (name : List ℕ) × IsFirstTooLargeInput told before now source schedule name × Appends old new (too_large_line name)
       by (inr s) = absurd (omega (arith, s.0, e))
       by (inl s) = let p = ten told before now source schedule d.status d.out (its source schedule is) (sym s.0 ∙ e) in (p.0, p.1, subst (Appends old new) p.2 s.1)
 
@@ -292,7 +292,7 @@ module _ (words : List (List ℕ)) (result : ℕ) (told : List ℕ → Option (L
         by (inl s) a = absurd (not_seven told before now source schedule d.status d.out (its source schedule asked.is_row) (sym s.0 ∙ seven))
         by (inr s) a = record { text = d.out; belongs = some a; written = s.1 }
 
-    unread_rose : (name : List ℕ) → IsFirstUnread told before now source schedule name → (Rose (before source) (now source) → ⊥) → IfSome schedule (λ name. Rose (before name) (now name) → ⊥) → ⊥
+    unread_rose : (name : List ℕ) → IsFirstUnreadInput told before now source schedule name → (Rose (before source) (now source) → ⊥) → IfSome schedule (λ name. Rose (before name) (now name) → ⊥) → ⊥
     unread_rose _ (source_unread is) one other = one is.rose
     unread_rose _ (schedule_unread name named small is) one other = let calm = subst (λ o. IfSome o (λ n. Rose (before n) (now n) → ⊥)) named other in calm is.rose
 

@@ -12,14 +12,14 @@ use Rattle.sources.specs.Facts.{IsNotWellFormed}
 use Rattle.sources.specs.Refusals.{code_of}
 use Rattle.sources.proofs.Apart.{no_source_is_none, no_source_ends}
 use Rattle.witness_commands.specs.Answers.{AnswersSearch, no_program, found, nothing, WitnessAnswer, HasWitness}
-use Rattle.witness_commands.specs.Reading.{AreWithin}
+use Rattle.witness_commands.specs.Reading.{AreInputsWithin}
 use Rattle.witness_commands.specs.Written.{BelongsToFiles, source_large, schedule_large, answered, IsExactSearch, IsExact}
 use Rattle.witness_commands.proofs.Endings.{witness_of, never, exactly, undone, decided, open_end, exact_over, exact_answered, verdict_between, verdict_yield, yields_other, yields_undone}
 
 witness_text_source : (file : List ℕ) → HasWitness file → IsWellFormedText file
 witness_text_source file w = (w.0, w.1, w.3)
 
-module _ (file : List ℕ) (within : AreWithin file None) where
+module _ (file : List ℕ) (within : AreInputsWithin file None) where
   large : (status : ℕ) → (status ≡ 10 → ⊥) → Exactly status 10 (longest_source < length file)
   large status other = never status 10 _ other (λ over. omega (arith, over, within.0))
 
@@ -33,7 +33,7 @@ module _ (file : List ℕ) (within : AreWithin file None) where
   }
 
   -- of a well-formed source
-  not_refused : (status : ℕ) → IsWellFormedText file → (status ≡ 1 → ⊥) → Exactly status 1 (AreWithin file None × IsNotWellFormed file)
+  not_refused : (status : ℕ) → IsWellFormedText file → (status ≡ 1 → ⊥) → Exactly status 1 (AreInputsWithin file None × IsNotWellFormed file)
   not_refused status is other = never status 1 _ other (λ g. g.1 is.0 is.1 is.2)
 
   search_found : HasWitness file → IsExactSearch file 2

@@ -17,7 +17,7 @@ use Rattle.sources.specs.Checking.{IsWellFormedSource, NoSource}
 use Rattle.sources.specs.Refusals.{code_of}
 use Rattle.state.specs.States.{State}
 use Rattle.syntax.specs.Trees.{ProgramTree}
-use Rattle.witness_commands.specs.Lines.{broken_by_line, undecided_line, witness_text, nothing_line}
+use Rattle.witness_commands.specs.Lines.{broken_by_line, undecided_line, witness_text, none_found_line}
 
 -- how many states are seen at most
 abbrev pub most_states : ℕ
@@ -33,7 +33,7 @@ IsSaid (verdict.Undecided seen) status out = (status ≡ 16) × (out ≡ undecid
 abbrev pub IsSoughtSaid : Sought → ℕ → List ℕ → Type 0
 IsSoughtSaid (sought.Witness found) status out =
     (status ≡ 2) × (out ≡ witness_text found.sense.by found.sense.full found.schedule.items) × (length found.schedule.items ≤ 200000 → IsSchedule out found.schedule.items)
-IsSoughtSaid (sought.Nothing tried) status out = (status ≡ 16) × (out ≡ nothing_line tried)
+IsSoughtSaid (sought.Nothing tried) status out = (status ≡ 16) × (out ≡ none_found_line tried)
 
 -- What is told of a schedule that runs to a state with no thread inside an atomic call: an order that interrupts no atomic call and
 -- leaves the same objects and the same output; or that there is none, in the sense that is told, and so no admissible assignment
@@ -60,7 +60,7 @@ pub data AnswersSearch (file : List ℕ) : ℕ → List ℕ → Type 0 where
   no_program : {ending : Ending} {line : List ℕ} → NoSource file ending line → AnswersSearch file (code_of ending) line
   found : (tree : ProgramTree) (P : Program) (s : List ℕ) (by : Compared) (full : Bool) → IsWellFormedSource file tree P → IsShown P s by full
       → IsSchedule (witness_text by full s) s → (IsAccepted P → ⊥) → AnswersSearch file 2 (witness_text by full s)
-  nothing : (tree : ProgramTree) (P : Program) (tried : ℕ) → IsWellFormedSource file tree P → AnswersSearch file 16 (nothing_line tried)
+  nothing : (tree : ProgramTree) (P : Program) (tried : ℕ) → IsWellFormedSource file tree P → AnswersSearch file 16 (none_found_line tried)
 
 -- the status and the text that are answered
 abbrev pub WitnessAnswer : (file : List ℕ) → (text : Option (List ℕ)) → ℕ → List ℕ → Type 0

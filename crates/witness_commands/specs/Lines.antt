@@ -27,5 +27,5 @@ abbrev pub witness_text : Compared → (full : Bool) → List ℕ → List ℕ
 witness_text by full s = written s ++ commented (broken_by_line by full)
 
 -- `no witness found: N schedules were tried`
-abbrev pub nothing_line : ℕ → List ℕ
-nothing_line tried = codes "no witness found: " ++ decimal tried ++ codes " schedules were tried" ++ line_end
+abbrev pub none_found_line : ℕ → List ℕ
+none_found_line tried = codes "no witness found: " ++ decimal tried ++ codes " schedules were tried" ++ line_end

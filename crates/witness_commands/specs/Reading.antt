@@ -5,8 +5,8 @@ use Rattle.sources.specs.Limits.{longest_second_file}
 use Rattle.sources.specs.Files.{HasSameFaults, IsUnread, IsOver}
 
 -- the files have at most as many bytes as they may have
-abbrev pub AreWithin : (file : List ℕ) → (text : Option (List ℕ)) → Type 0
-AreWithin file text = (length file ≤ longest_source) × IfSome text (λ bytes. length bytes ≤ longest_second_file)
+abbrev pub AreInputsWithin : (file : List ℕ) → (text : Option (List ℕ)) → Type 0
+AreInputsWithin file text = (length file ≤ longest_source) × IfSome text (λ bytes. length bytes ≤ longest_second_file)
 
 -- this holds of the name of the schedule and of its bytes; or there is neither
 abbrev pub OfSchedule : (List ℕ → List ℕ → Type 0) → (schedule text : Option (List ℕ)) → Type 0
@@ -26,18 +26,18 @@ module _ (told : List ℕ → Option (List ℕ)) where
 
   module _ (before now : List ℕ → ℕ) where
     -- the first of the files that couldn't be read
-    pub data IsFirstUnread (source : List ℕ) (schedule : Option (List ℕ)) : List ℕ → Type 0 where
-      source_unread : IsUnread told before now source → IsFirstUnread source schedule source
-      schedule_unread : (name : List ℕ) → schedule ≡ Some name → IsSourceWithin source → IsUnread told before now name → IsFirstUnread source schedule name
+    pub data IsFirstUnreadInput (source : List ℕ) (schedule : Option (List ℕ)) : List ℕ → Type 0 where
+      source_unread : IsUnread told before now source → IsFirstUnreadInput source schedule source
+      schedule_unread : (name : List ℕ) → schedule ≡ Some name → IsSourceWithin source → IsUnread told before now name → IsFirstUnreadInput source schedule name
 
     -- the first of the files that has more bytes than it may have
-    pub data IsFirstOver (source : List ℕ) (schedule : Option (List ℕ)) : List ℕ → Type 0 where
-      source_over : IsOver told before now longest_source source → IsFirstOver source schedule source
-      schedule_over : (name : List ℕ) → schedule ≡ Some name → IsSourceWithin source → IsOver told before now longest_second_file name → IsFirstOver source schedule name
+    pub data IsFirstTooLargeInput (source : List ℕ) (schedule : Option (List ℕ)) : List ℕ → Type 0 where
+      source_over : IsOver told before now longest_source source → IsFirstTooLargeInput source schedule source
+      schedule_over : (name : List ℕ) → schedule ≡ Some name → IsSourceWithin source → IsOver told before now longest_second_file name → IsFirstTooLargeInput source schedule name
 
     -- the files were read
-    pub record AreRead (source : List ℕ) (schedule : Option (List ℕ)) (file : List ℕ) (text : Option (List ℕ)) : Type 0 where
+    pub record AreInputsRead (source : List ℕ) (schedule : Option (List ℕ)) (file : List ℕ) (text : Option (List ℕ)) : Type 0 where
       pub source_is : AreBytesOf source file
       pub schedule_is : OfSchedule AreBytesOf schedule text
-      pub within : AreWithin file text
+      pub within : AreInputsWithin file text
       pub quiet : HasSameFaults before now

@@ -9,7 +9,7 @@ use Rattle.schedule.specs.Text.{IsSchedule}
 use Rattle.sources.specs.Checking.{IsWellFormedSource}
 use Rattle.syntax.specs.Trees.{ProgramTree}
 use Rattle.witness_commands.specs.Answers.{IsWitnessOf}
-use Rattle.witness_commands.specs.Reading.{AreWithin}
+use Rattle.witness_commands.specs.Reading.{AreInputsWithin}
 use Rattle.witness_commands.specs.Written.{IsAsked}
 
 -- the schedule is that of the text that is given; or, where none is, of the text that was written
@@ -33,4 +33,4 @@ pub record ShowsBroken (file : List ℕ) (text old new : Option (List ℕ)) : Ty
 abbrev pub Witnesses : Call → Type 0
 Witnesses call =
     (source : List ℕ) (schedule : Option (List ℕ)) (file : List ℕ) (text : Option (List ℕ)) → IsAsked call.words call.told source schedule file text
-    → AreWithin file text → call.status ≡ 2 → ShowsBroken file text call.written_before call.written_after
+    → AreInputsWithin file text → call.status ≡ 2 → ShowsBroken file text call.written_before call.written_after

@@ -1,7 +1,7 @@
 //! The lines that tell of a schedule.
 
 ghost use Rattle.std.specs.Prelude.{◌≡◌, IfOk, string_bytes};
-ghost use Rattle.witness_commands.specs.Lines.{broken_text, broken_by_line, undecided_line, nothing_line};
+ghost use Rattle.witness_commands.specs.Lines.{broken_text, broken_by_line, undecided_line, none_found_line};
 
 use base::write_number;
 use edge::joined;
@@ -52,8 +52,8 @@ pub(crate) fn undecided_line(alloc: Global, seen: u32) -> Result<String, NoMemor
 }
 
 /// The line for a source in which no witness was found, among so many schedules.
-pub(crate) fn nothing_line(alloc: Global, tried: u32) -> Result<String, NoMemory>
-    ensures { IfOk result (λ line. string_bytes line ≡ nothing_line tried) }
+pub(crate) fn none_found_line(alloc: Global, tried: u32) -> Result<String, NoMemory>
+    ensures { IfOk result (λ line. string_bytes line ≡ none_found_line tried) }
 {
     let mut line = String::from_str(alloc, "no witness found: ")?;
     write_number(&mut line, tried)?;

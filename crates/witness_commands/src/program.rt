@@ -8,7 +8,7 @@ ghost use Rattle.edge.specs.Calls.{call_record};
 ghost use Rattle.edge.specs.Lines.{cannot_read_line, too_large_line};
 ghost use Rattle.edge.specs.Said.{SaysText, IsTroubleStatus};
 ghost use Rattle.witness_commands.specs.Outcomes.{IsWitnessOutcome, IsUnreadLine};
-ghost use Rattle.witness_commands.specs.Reading.{IsFirstOver, IsFirstUnread};
+ghost use Rattle.witness_commands.specs.Reading.{IsFirstTooLargeInput, IsFirstUnreadInput};
 ghost use Rattle.witness_commands.specs.Sentence.{Witnesses};
 ghost use Rattle.witness_commands.specs.Words.{NamesFiles, NamesNoFiles, witness_usage_line};
 ghost use Rattle.witness_commands.specs.Written.{IsAsked, IsExact, WritesAnswerToFiles, BelongsToFiles, IsSomeTextOfFiles};
@@ -102,9 +102,9 @@ pub fn run<F: Folder, K: Sink>(alloc: Global, words: &[String], folder: &mut F, 
 
     // The source is read before the schedule, where one is named, and the first refusal is the answer; else none failed.
     ensures cannot_read { (source : List ℕ) (schedule : Option (List ℕ)) → NamesFiles (map string_bytes words.now) source schedule → result ≡ 6 →
-        (name : List ℕ) × IsFirstUnread (F.told folder.old) (F.faults folder.old) (F.faults folder.new) source schedule name × Appends (K.written sink.old) (K.written sink.new) (cannot_read_line name) }
+        (name : List ℕ) × IsFirstUnreadInput (F.told folder.old) (F.faults folder.old) (F.faults folder.new) source schedule name × Appends (K.written sink.old) (K.written sink.new) (cannot_read_line name) }
     ensures too_large { (source : List ℕ) (schedule : Option (List ℕ)) → NamesFiles (map string_bytes words.now) source schedule → result ≡ 10 →
-        (name : List ℕ) × IsFirstOver (F.told folder.old) (F.faults folder.old) (F.faults folder.new) source schedule name × Appends (K.written sink.old) (K.written sink.new) (too_large_line name) }
+        (name : List ℕ) × IsFirstTooLargeInput (F.told folder.old) (F.faults folder.old) (F.faults folder.new) source schedule name × Appends (K.written sink.old) (K.written sink.new) (too_large_line name) }
     ensures quiet { IsTroubleStatus result ⊎ HasSameFaults (F.faults folder.old) (F.faults folder.new) }
 
     // A sink that fails, want of memory.

@@ -11,7 +11,7 @@ ghost use Rattle.witness_commands.specs.Answers.{IsSoughtSaid, AnswersSearch};
 ghost use Rattle.witness.specs.declared.seeking.Sought.TheVariants as answers;
 
 use crate::answering::Said;
-use crate::lines::{broken_line, nothing_line};
+use crate::lines::{broken_line, none_found_line};
 use compile::compile;
 use schedule::{add_comments, comment_laws, write_schedule};
 use sources::{Refusal, Source, read_source};
@@ -47,7 +47,7 @@ fn sought_answer(alloc: Global, sought: &Sought) -> Result<Said, NoMemory>
         Sought::Witness(found) => found_answer(alloc, found),
         Sought::Nothing { tried } => Ok(Said {
             status: 16,
-            text: nothing_line(alloc, *tried)?.into_bytes(),
+            text: none_found_line(alloc, *tried)?.into_bytes(),
         }),
     }
 }
