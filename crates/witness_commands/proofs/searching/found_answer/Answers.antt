@@ -9,8 +9,7 @@ pub returns : goal.returns
 returns c =
     let found = c.args.found.now in
     let made = c.in_ok-text.ensures in
-    let its = c.as_slice.ensures.value in (
-      refl,
-      made.text ∙ ap (λ s. written s ++ commented c.as_bytes.result.now) its ∙ ap (λ line. written found.schedule.items ++ commented line) (c.as_bytes.ensures.value ∙ c.in_ok-line.ensures),
-      subst (λ s. length s ≤ 200000 → IsSchedule c.in_ok-text.text.items s) its made.spells,
-    )
+    let its = c.as_slice.ensures.value in
+    let line = c.as_bytes.ensures.value ∙ c.in_ok-line.ensures in
+    let text = made.text ∙ ap (λ s. written s ++ commented c.as_bytes.result.now) its ∙ ap (λ l. written found.schedule.items ++ commented l) line in
+    (refl, text, subst (λ s. length s ≤ 200000 → IsSchedule c.in_ok-text.text.items s) its made.spells)
