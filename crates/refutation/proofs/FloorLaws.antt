@@ -9,10 +9,10 @@ use Rattle.algebra.specs.declared.basic.Basic.{Basic}
 use Rattle.algebra.specs.declared.basic.Basic.TheVariants.{Const}
 use Rattle.algebra.specs.HeldPaths.{Held, has_path}
 use Rattle.core_program.specs.Core.{Program}
-use Rattle.rules.specs.Rules.{IsSubset, AtMost, IsAntitone}
+use Rattle.rules.specs.Rules.{IsSubset, AtMost, IsAntitone, held_in}
 use Rattle.rules.proofs.BasicLemmas.{below_itself, below_chain, join_mono}
 use Rattle.rules.proofs.SetLemmas.{first, second}
-use Rattle.refutation.specs.Lines.{LineData, covers, line_at, floor}
+use Rattle.refutation.specs.Lines.{LineData, covers, line_at, floor, joined_over}
 use Rattle.refutation.specs.Certificates.{is_placed, is_justified, AreCertificateLines, keeps_bound, bound_of}
 use Rattle.refutation.proofs.Sets.{below_const, join_least, join_first, join_second, choice_low, covers_part, part_covers}
 
@@ -37,6 +37,13 @@ module _ (rel : ℕ → List PathData) where
 
   pub floor_falls : (ls : List LineData) → IsAntitone rel (floor rel ls)
   floor_falls ls m H K inside part = floor_part ls m H K part
+
+  -- so does what is said of several methods
+  pub over_falls : (ls : List LineData) (H : Held) (ns : List ℕ) → AtMost (joined_over rel (floor rel ls) ns H) (joined_over rel (floor rel ls) ns (has_path []))
+  over_falls ls H [] = refl
+  over_falls ls H (n ∷ ns) = join_mono _ _ _ _
+      (floor_part ls n (held_in (rel n) (has_path [])) (held_in (rel n) H) (λ q has. absurd (let e : false ≡ true = second (has_path (rel n) q) false has in cc)))
+      (over_falls ls H ns)
 
   -- one more line never lowers the floor
   pub floor_more : (ls : List LineData) (l : LineData) (m : ℕ) (H : Held) → AtMost (floor rel ls m H) (floor rel (ls ++ l ∷ []) m H)

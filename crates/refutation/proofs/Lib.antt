@@ -2,7 +2,7 @@
 -- floors (FloorLaws), the cells of a program (Cells) and passes (PassLaws); of the calls, rows of overriding methods (RowLemmas), tables
 -- (TableLemmas), methods that needn't be asked again (WaitLemmas), and those that wait within
 -- a range (Ranges), the maker (MakerLemmas), lines that are said already (Known) and the
--- checker (CheckLemmas).
+-- checker (CheckLemmas), with the work that it takes (Rooms, Cheap) and what a line reaches (Reached).
 pub mod Sets
 pub mod Over
 pub mod Below
@@ -18,6 +18,7 @@ pub mod Known
 pub mod CheckLemmas
 mod Rooms
 mod Cheap
+mod Reached
 -- Lemmas on texts of certificates: held paths (Held), lines (Lines), and whole texts (TextLaws).
 pub mod Held
 pub mod Lines

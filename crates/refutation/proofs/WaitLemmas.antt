@@ -8,6 +8,7 @@ use Rattle.std.proofs.lemmas.Bool.{eqb-true, eqb-false, ne_eqb, false_from_ne_tr
 use Rattle.std.proofs.lemmas.Grind.{common_steps}
 use Rattle.std.proofs.lemmas.List.{take_more, length-drop}
 use Rattle.paths.specs.Paths.{PathData}
+use Rattle.algebra.specs.declared.basic.Basic.{Basic}
 use Rattle.algebra.specs.declared.basic.Basic.TheVariants.{Const}
 use Rattle.algebra.specs.Basics.{below_of, join_of}
 use Rattle.algebra.specs.HeldPaths.{Held, has_path}
@@ -25,7 +26,7 @@ use Rattle.refutation.specs.Lines.{LineData, covers, floor, overriding, joined_o
 use Rattle.refutation.specs.Certificates.{keeps_bound}
 use Rattle.refutation.specs.Passes.{MethodAtSet, cells_in, cells_from, subsets_of, LinesWritten, by_tests, floor_at, up_at, line_for, pass}
 use Rattle.refutation.specs.Ends.{IsPass}
-use Rattle.refutation.specs.Waiting.{Adds, AreSaid, cells_with, AreSettled, AreWoken, IsAsleep}
+use Rattle.refutation.specs.Waiting.{Adds, IsMostOver, AreSaid, cells_with, AreSettled, AreWoken, IsAsleep}
 use Rattle.refutation.proofs.Sets.{join_const}
 use Rattle.refutation.proofs.Over.{over_least, over_above}
 use Rattle.refutation.proofs.FloorLaws.{floor_more}
@@ -109,6 +110,18 @@ module _ (P : Program) (rel : ℕ → List PathData) where
     where
       turned : (l.method == m) ≡ false
       turned = ne_eqb l.method m (λ e. eqb-false m l.method other (sym e))
+
+  -- where lines of a method are added, no more is said of those that override it
+  pub most_stays : (m : ℕ) (most : Basic) (old new : List LineData) → Adds m old new → IsMostOver P rel old m most → IsMostOver P rel new m most
+  most_stays m most old new adds is = subst (λ ls. IsMostOver P rel ls m most) (sym adds.are) (by adds.more old adds.its is)
+    where
+      one : (l : LineData) (ls : List LineData) → l.method ≡ m → IsMostOver P rel ls m most → IsMostOver P rel (ls ++ l ∷ []) m most
+      one l ls its is H = over_least P rel (floor rel (ls ++ l ∷ [])) m H most (λ n over.
+          subst (λ b. AtMost b most) (floor_other ls l n (ne_eqb n l.method (λ e. over.differs (e ∙ its))) (held_in (rel n) H)) (below_chain _ _ _ (over_above P rel (floor rel ls) m H n over) (is H)))
+
+      by : (more ls : List LineData) → AllByRecursion (λ l. l.method ≡ m) more → IsMostOver P rel ls m most → IsMostOver P rel (ls ++ more) m most
+      by [] ls its is = subst (λ xs. IsMostOver P rel xs m most) (sym (append-nil ls)) is
+      by (l ∷ more) ls its is = subst (λ xs. IsMostOver P rel xs m most) (append_assoc ls (l ∷ []) more) (by more (ls ++ l ∷ []) its.1 (one l ls its.0 is))
 
   module _ (rows : List (List ℕ)) (overriders : AreOverriders P rows) where
     over_part : (A B : Assignment) (n m : ℕ) (H : Held) → ((k : ℕ) → (k == m) ≡ false → (K : Held) → A k K ≡ B k K) → (Overrides P m n → ⊥) → AtMost (joined_over rel A (overriding P n) H) (joined_over rel B (overriding P n) H)

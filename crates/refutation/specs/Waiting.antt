@@ -3,10 +3,13 @@
 use Rattle.std.specs.Prelude.{◌≡◌, ℕ, ◌<◌, ◌≤◌, Bool, true, false, List, [], ◌++◌, length, Option, Some, None, slice_get}
 use Rattle.std.specs.List.{AllByRecursion}
 use Rattle.paths.specs.Paths.{PathData}
+use Rattle.algebra.specs.declared.basic.Basic.{Basic}
 use Rattle.algebra.specs.Basics.{below_of}
+use Rattle.algebra.specs.HeldPaths.{Held}
 use Rattle.core_program.specs.Core.{Program, Method}
 use Rattle.rules.specs.Called.{has_method}
-use Rattle.refutation.specs.Lines.{LineData}
+use Rattle.rules.specs.Rules.{AtMost}
+use Rattle.refutation.specs.Lines.{LineData, floor, overriding, joined_over}
 use Rattle.refutation.specs.Passes.{MethodAtSet, cells_in, subsets_of, floor_at, up_at}
 
 -- the new lines are the old ones, and some more of this method behind them
@@ -14,6 +17,10 @@ pub record Adds (m : ℕ) (old new : List LineData) : Type 0 where
   pub more : List LineData
   pub are : new ≡ old ++ more
   pub its : AllByRecursion (λ l. l.method ≡ m) more
+
+-- no more than a basic is said of the methods that override one, whatever paths are held
+abbrev pub IsMostOver : Program → (rel : ℕ → List PathData) → List LineData → ℕ → Basic → Type 0
+IsMostOver P rel ls m most = (H : Held) → AtMost (joined_over rel (floor rel ls) (overriding P m) H) most
 
 -- nothing new is to be said at these cells
 abbrev pub AreSaid : Program → (rel : ℕ → List PathData) → List MethodAtSet → List LineData → Type 0

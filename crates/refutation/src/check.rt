@@ -1,10 +1,12 @@
 //! The checker of certificates.
 ghost use Rattle.std.specs.Prelude.{◌≡◌, ◌⊎◌, ◌<◌, ◌≤◌, ◌+◌, ◌-◌, ◌^◌, ◌∷◌, ◌++◌, List, [], true, length, slice_get, IfOk, IfErr, IfSome, MatchOption, MatchResult};
+ghost use Rattle.algebra.specs.Basics.{below_of};
+ghost use Rattle.algebra.specs.HeldPaths.{has_path};
 ghost use Rattle.core_program.specs.Views.{program_of};
 ghost use Rattle.rules.specs.Near.{rel_of};
 ghost use Rattle.rules.specs.Overriding.{AreOverriders};
-ghost use Rattle.refutation.specs.Lines.{LineData};
-ghost use Rattle.refutation.specs.Tables.{TablesSay};
+ghost use Rattle.refutation.specs.Lines.{LineData, certified_effect};
+ghost use Rattle.refutation.specs.Tables.{TablesSay, said_by};
 ghost use Rattle.refutation.specs.Certificates.{AreCertificateLines, IsCertificate, bound_of, breaks, is_justified, is_placed, keeps_bound};
 ghost use Rattle.refutation.specs.Works.{IsOverWork, look_work, work_left};
 ghost use Rattle.refutation.specs.Wrongs.{AllPass, IsFirstFailing, IsWrongCertificate, justified_at, placed_at};
@@ -13,12 +15,12 @@ use crate::floors::Floors;
 use crate::judged::Judged;
 use crate::line::{Blame, Line};
 use crate::short_path::{are_among, are_held, unpacked};
-use crate::up::run_effect;
-use crate::work::{MOST_WORK, spend};
+use crate::up::{body_effect, said_over};
+use crate::work::{MOST_WORK, body_cost, overriding_cost, spend};
 use algebra::Basic;
 use core_program::CoreProgram;
 use effects::Assigned;
-use paths::MethodId;
+use paths::{MethodId, Path};
 use rules::{RelevantSets, overriders};
 use std::alloc::{AllocError, AllocError as NoMemory, Global};
 
@@ -104,6 +106,44 @@ fn unplaced(program: &CoreProgram, sets: &RelevantSets, lines: &[Line]) -> Optio
     None
 }
 
+/// Whether a call of a line's method comes to at least the line's basic where these paths are held: by its body, else by what is said of
+/// the methods that override it, which are looked at only then. None where that would take more work than is left.
+fn is_reached(
+    alloc: Global,
+    judged: &Judged<'_>,
+    left: &mut u64,
+    floors: &Floors<'_>,
+    line: &Line,
+    held: &[Path],
+) -> Result<Option<bool>, NoMemory>
+    requires { AreOverriders (program_of judged.now.program.now) judged.now.over.now }
+    ensures work { let look = look_work (program_of judged.now.program.now) line.now.method in
+        IfOk result (λ told. MatchOption told (left.old < look) (λ _. left.old ≤ left.new + look)) }
+    ensures reached { let rel = rel_of judged.now.sets.now in floors.now.sets.now ≡ judged.now.sets.now →
+        IfOk result (λ told. IfSome told (λ b. b ≡ below_of line.now.found (certified_effect (program_of judged.now.program.now) rel (said_by rel floors.now.tables.items) line.now.method (has_path held.now)))) }
+{
+    if !spend(left, body_cost(judged.program, line.method)) {
+        return Ok(None);
+    }
+    let body = body_effect(
+        alloc,
+        judged.program,
+        judged.sets,
+        floors,
+        line.method,
+        held,
+    )?;
+    if line.found.below(body) {
+        return Ok(Some(true));
+    }
+    let others = judged.over.of(line.method);
+    if !spend(left, overriding_cost(others)) {
+        return Ok(None);
+    }
+    let reached = said_over(floors, others, held, body, line.found);
+    Ok(Some(line.found.below(reached)))
+}
+
 /// Whether a line, which has its place, follows from what is said so far; and then says it too. None where a look at its method would
 /// take more work than is left. A line that is said already follows, and takes no look.
 fn follows(
@@ -130,11 +170,10 @@ fn follows(
     if line.found.below(floors.at(line.method, held)) {
         return Ok(Some(true));
     }
-    if !spend(judged, left, line.method) {
+    let Some(reached) = is_reached(alloc, judged, left, floors, line, held)? else {
         return Ok(None);
-    }
-    let found = run_effect(alloc, judged, floors, line.method, held)?;
-    if !line.found.below(found) {
+    };
+    if !reached {
         return Ok(Some(false));
     }
     floors.add(line.method, held, line.found);
@@ -174,8 +213,8 @@ fn unjustified(
 }
 
 /// Whether lines are a certificate of refusal of a program with these relevant sets: then no assignment is admissible. A line that
-/// is said already costs a look at its paths, and any other the size of its method's body and the number of methods that override it, up
-/// to a stated amount of work.
+/// is said already costs a look at its paths, any other the size of its method's body, and one that the body doesn't reach the number of
+/// methods that override it, up to a stated amount of work.
 pub fn check_blame(
     alloc: Global,
     program: &CoreProgram,

@@ -1,70 +1,81 @@
 //! What a call of a method comes to under an assignment.
 ghost use Rattle.std.specs.Prelude.{◌≡◌, slice_get, IfOk};
+ghost use Rattle.algebra.specs.Basics.{below_of, join_of};
 ghost use Rattle.algebra.specs.HeldPaths.{has_path};
 ghost use Rattle.core_program.specs.Views.{program_of};
 ghost use Rattle.rules.specs.Near.{rel_of};
-ghost use Rattle.refutation.specs.Lines.{body_effect, joined_over, certified_effect};
 ghost use Rattle.rules.specs.Overriding.{AreOverriders};
+ghost use Rattle.rules.specs.Rules.{AtMost};
+ghost use Rattle.refutation.specs.Lines.{overriding, body_effect, joined_over, certified_effect};
+ghost use Rattle.refutation.specs.Tables.{said_by};
 
+use crate::floors::Floors;
 use crate::judged::Judged;
 use algebra::Basic;
 use core_program::CoreProgram;
-use effects::{Assigned, among, stmt_effect};
+use effects::{Assigned, stmt_effect};
 use paths::{MethodId, Path};
 use rules::RelevantSets;
 use std::alloc::{AllocError as NoMemory, Global};
 
 /// The effect of a method's body, where the method is there.
-fn body_effect<A: Assigned>(
+pub(crate) fn body_effect(
     alloc: Global,
     program: &CoreProgram,
     sets: &RelevantSets,
-    assigned: &A,
+    floors: &Floors<'_>,
     method: MethodId,
     held: &[Path],
 ) -> Result<Basic, NoMemory>
     ensures { IfOk result (λ b. let P = program_of program.now in
-        b ≡ body_effect P (rel_of sets.now) (A.Assigned.assigned assigned.now) (slice_get P.methods method) (has_path held.now)) }
+        b ≡ body_effect P (rel_of sets.now) (said_by (rel_of floors.now.sets.now) floors.now.tables.items) (slice_get P.methods method) (has_path held.now)) }
 {
     match program.methods().get(method.0 as usize) {
-        Some(method) => stmt_effect(alloc, program, sets, assigned, &method.body, held),
+        Some(method) => stmt_effect(alloc, program, sets, floors, &method.body, held),
         None => Ok(Basic::Const),
     }
 }
 
-/// The greatest of what is assigned to these methods.
-#[tactic(auto, using(crate::proofs::Sets::join_assoc, crate::proofs::Sets::join_const))]
-fn joined_over<A: Assigned>(
-    alloc: Global,
-    sets: &RelevantSets,
-    assigned: &A,
+/// The greatest of a basic and of what is said of these methods where these paths are held. Once it is so much, no more of them are
+/// looked at.
+pub(crate) fn said_over(
+    floors: &Floors<'_>,
     methods: &[MethodId],
     held: &[Path],
-) -> Result<Basic, NoMemory>
-    ensures { IfOk result (λ b.
-        b ≡ joined_over (rel_of sets.now) (A.Assigned.assigned assigned.now) methods.now (has_path held.now)) }
+    from: Basic,
+    enough: Basic,
+) -> Basic
+    ensures whole { let rel = rel_of floors.now.sets.now in let said = joined_over rel (said_by rel floors.now.tables.items) methods.now (has_path held.now) in
+        AtMost said enough → result ≡ join_of from said }
+    ensures reached { let rel = rel_of floors.now.sets.now in let said = joined_over rel (said_by rel floors.now.tables.items) methods.now (has_path held.now) in
+        below_of enough result ≡ below_of enough (join_of from said) }
 {
-    let mut so_far = Basic::Const;
+    let mut so_far = from;
     for method in methods {
-        let known = among(alloc, sets.rel(*method), held)?;
-        so_far = so_far.join(assigned.at(*method, known.as_slice()));
+        if enough.below(so_far) {
+            return so_far;
+        }
+        so_far = so_far.join(floors.at(*method, held));
     }
-    Ok(so_far)
+    so_far
 }
 
-/// What a call of a method of the program may come to where these paths are held: its body, or that of a method that overrides it.
-pub(crate) fn run_effect<A: Assigned>(
+/// What a call of a method of the program comes to where these paths are held: its body, or what is said of the methods that override
+/// it. These are looked at only where the body comes to less than what is said of them at most.
+pub(crate) fn run_effect(
     alloc: Global,
     judged: &Judged<'_>,
-    assigned: &A,
+    floors: &Floors<'_>,
+    most: Basic,
     method: MethodId,
     held: &[Path],
 ) -> Result<Basic, NoMemory>
-    requires { AreOverriders (program_of judged.now.program.now) judged.now.over.now }
+    requires over { AreOverriders (program_of judged.now.program.now) judged.now.over.now }
+    requires same { floors.now.sets.now ≡ judged.now.sets.now }
+    requires most { let rel = rel_of floors.now.sets.now in AtMost (joined_over rel (said_by rel floors.now.tables.items) (overriding (program_of judged.now.program.now) method) (has_path held.now)) most }
     ensures { IfOk result (λ b.
-        b ≡ certified_effect (program_of judged.now.program.now) (rel_of judged.now.sets.now) (A.Assigned.assigned assigned.now) method (has_path held.now)) }
+        b ≡ certified_effect (program_of judged.now.program.now) (rel_of judged.now.sets.now) (said_by (rel_of floors.now.sets.now) floors.now.tables.items) method (has_path held.now)) }
 {
-    let body = body_effect(alloc, judged.program, judged.sets, assigned, method, held)?;
-    let others = joined_over(alloc, judged.sets, assigned, judged.over.of(method), held)?;
-    Ok(body.join(others))
+    let body = body_effect(alloc, judged.program, judged.sets, floors, method, held)?;
+    Ok(said_over(floors, judged.over.of(method), held, body, most))
 }

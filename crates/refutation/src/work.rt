@@ -2,10 +2,8 @@
 ghost use Rattle.std.specs.Prelude.{◌≡◌, ◌≤◌, ◌<◌, ◌+◌, ◌*◌, true, false, slice_get};
 ghost use Rattle.core_program.specs.Sizes.{nodes_of, nodes_of_each, stmt_nodes, stmt_nodes_each};
 ghost use Rattle.core_program.specs.Views.{program_of, expr_of, exprs_from, stmt_of, stmts_from};
-ghost use Rattle.rules.specs.Overriding.{AreOverriders};
-ghost use Rattle.refutation.specs.Works.{body_work, look_work, rising};
+ghost use Rattle.refutation.specs.Works.{body_work, rising};
 
-use crate::judged::Judged;
 use core_program::{CoreExpr, CoreProgram, CoreStmt};
 use paths::MethodId;
 
@@ -17,7 +15,7 @@ pub(crate) const MOST_WORK: u64 = 1 << 31;
 const WORK_OF_CALL: u64 = 8;
 
 /// The work of a look at a method's body, where it is there.
-fn body_cost(program: &CoreProgram, method: MethodId) -> u64
+pub(crate) fn body_cost(program: &CoreProgram, method: MethodId) -> u64
     ensures { result ≤ body_work (slice_get (program_of program.now).methods method) }
 {
     match program.methods().get(method.0 as usize) {
@@ -27,7 +25,7 @@ fn body_cost(program: &CoreProgram, method: MethodId) -> u64
 }
 
 /// The work of looks at overriding methods, each counted once: their numbers ascend.
-fn overriding_cost(methods: &[MethodId]) -> u64
+pub(crate) fn overriding_cost(methods: &[MethodId]) -> u64
     ensures { result ≤ 8 * rising 0 methods.now }
 {
     let mut count = 0u64;
@@ -42,14 +40,11 @@ fn overriding_cost(methods: &[MethodId]) -> u64
     count.saturating_mul(WORK_OF_CALL)
 }
 
-/// Takes the work of a look at a method from what is left, and says whether so much was left.
-pub(crate) fn spend(judged: &Judged<'_>, left: &mut u64, method: MethodId) -> bool
-    requires { AreOverriders (program_of judged.now.program.now) judged.now.over.now }
-    ensures spent { result ≡ true → left.old ≤ left.new + look_work (program_of judged.now.program.now) method }
-    ensures over { result ≡ false → left.old < look_work (program_of judged.now.program.now) method }
+/// Takes so much work from what is left, and says whether so much was left.
+pub(crate) fn spend(left: &mut u64, cost: u64) -> bool
+    ensures spent { result ≡ true → left.old ≡ left.new + cost }
+    ensures over { result ≡ false → left.old < cost }
 {
-    let body = body_cost(judged.program, method);
-    let cost = body.saturating_add(overriding_cost(judged.over.of(method)));
     if cost > *left {
         return false;
     }

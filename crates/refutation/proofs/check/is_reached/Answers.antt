@@ -1,0 +1,82 @@
+-- What the body reaches, else what is said of the methods that override it; and what the looks take.
+use Rattle.std.proofs.Common.{◌≡◌, ◌+◌, ◌*◌, true, false, length, slice_get, rules, refl, ap, sym, ◌∙◌, arith}
+use Rattle.algebra.specs.Basics.{below_of, join_of}
+use Rattle.algebra.specs.HeldPaths.{has_path}
+use Rattle.core_program.specs.Views.{program_of}
+use Rattle.rules.specs.Near.{rel_of}
+use Rattle.refutation.specs.Lines.{LineData, overriding, body_effect, joined_over, certified_effect}
+use Rattle.refutation.specs.Tables.{said_by}
+use Rattle.refutation.specs.Works.{body_work, look_work}
+use Rattle.refutation.proofs.Reached.{run_with, body_reaches}
+use Rattle.refutation.proofs.Rooms.{row_few}
+use Rattle.refutation.proofs.check.is_reached.Goals as goal
+
+pub returns-then-not-spend-clause-work : goal.returns-then-not-spend-clause-work
+returns-then-not-spend-clause-work c =
+    let P = program_of c.args.judged.now.program.now in
+    let m = c.line.inside.method in
+    let same = ap (look_work P) (ap (λ (x : LineData). x.method) c.line.view_is) in
+    let look : look_work P m ≡ body_work (slice_get P.methods m) + 8 * length (overriding P m) = refl in
+    let none : c.spend.result ≡ false = search rules in
+    omega (arith, same, look, c.body_cost.ensures, c.spend.ensures.over none)
+
+pub returns-then-below-clause-work : goal.returns-then-below-clause-work
+returns-then-below-clause-work c =
+    let P = program_of c.args.judged.now.program.now in
+    let m = c.line.inside.method in
+    let same = ap (look_work P) (ap (λ (x : LineData). x.method) c.line.view_is) in
+    let look : look_work P m ≡ body_work (slice_get P.methods m) + 8 * length (overriding P m) = refl in
+    let some : c.spend.result ≡ true = search rules in
+    omega (arith, same, look, c.body_cost.ensures, c.spend.ensures.spent some)
+
+pub returns-then-not-spend-2-clause-work : goal.returns-then-not-spend-2-clause-work
+returns-then-not-spend-2-clause-work c =
+    let P = program_of c.args.judged.now.program.now in
+    let m = c.line.inside.method in
+    let same = ap (look_work P) (ap (λ (x : LineData). x.method) c.line.view_is) in
+    let look : look_work P m ≡ body_work (slice_get P.methods m) + 8 * length (overriding P m) = refl in
+    let few = row_few P c.args.judged.now.over.now m c.of-others.result.now c.requires c.of-others.ensures in
+    let some : c.spend.result ≡ true = search rules in
+    let none : c.spend-2.result ≡ false = search rules in
+    omega (arith, same, look, few, c.body_cost.ensures, c.overriding_cost.ensures, c.spend.ensures.spent some, c.spend-2.ensures.over none)
+
+pub returns-clause-work : goal.returns-clause-work
+returns-clause-work c =
+    let P = program_of c.args.judged.now.program.now in
+    let m = c.line.inside.method in
+    let same = ap (look_work P) (ap (λ (x : LineData). x.method) c.line.view_is) in
+    let look : look_work P m ≡ body_work (slice_get P.methods m) + 8 * length (overriding P m) = refl in
+    let few = row_few P c.args.judged.now.over.now m c.of-others.result.now c.requires c.of-others.ensures in
+    let some : c.spend.result ≡ true = search rules in
+    let more : c.spend-2.result ≡ true = search rules in
+    omega (arith, same, look, few, c.body_cost.ensures, c.overriding_cost.ensures, c.spend.ensures.spent some, c.spend-2.ensures.spent more)
+
+pub returns-then-below-clause-reached : goal.returns-then-below-clause-reached
+returns-then-below-clause-reached c = λ same.
+    let P = program_of c.args.judged.now.program.now in
+    let rel = rel_of c.args.judged.now.sets.now in
+    let A = said_by rel c.args.floors.now.tables.items in
+    let H = has_path c.args.held.now in
+    let m = c.line.inside.method in
+    let method = ap (λ (x : LineData). x.method) c.line.view_is in
+    let found = ap (λ (x : LineData). x.found) c.line.view_is in
+    let said = c.in_ok-body.ensures ∙ (λ i. body_effect P rel (said_by (rel_of (same i)) c.args.floors.now.tables.items) (slice_get P.methods m) H) in
+    body_reaches P rel A m H c.line.inside.found c.in_ok-body.body said (sym c.below.ensures ∙ c.if-below.true)
+    ∙ (λ i. below_of (found i) (certified_effect P rel A (method i) H))
+
+pub returns-clause-reached : goal.returns-clause-reached
+returns-clause-reached c = λ same.
+    let P = program_of c.args.judged.now.program.now in
+    let rel = rel_of c.args.judged.now.sets.now in
+    let tables = c.args.floors.now.tables.items in
+    let H = has_path c.args.held.now in
+    let m = c.line.inside.method in
+    let methods = c.of-others.result.now in
+    let body = c.in_ok-body.body in
+    let method = ap (λ (x : LineData). x.method) c.line.view_is in
+    let found = ap (λ (x : LineData). x.found) c.line.view_is in
+    let said = c.in_ok-body.ensures ∙ (λ i. body_effect P rel (said_by (rel_of (same i)) tables) (slice_get P.methods m) H) in
+    c.below-2.ensures ∙ c.said_over-reached.ensures.reached
+    ∙ (λ i. below_of c.line.inside.found (join_of body (joined_over (rel_of (same i)) (said_by (rel_of (same i)) tables) methods H)))
+    ∙ ap (below_of c.line.inside.found) (run_with P rel (said_by rel tables) H c.args.judged.now.over.now m methods body c.requires c.of-others.ensures said)
+    ∙ (λ i. below_of (found i) (certified_effect P rel (said_by rel tables) (method i) H))
