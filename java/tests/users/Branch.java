@@ -163,7 +163,7 @@ public class Branch {
         }
     }
 
-    public List<String> richest(int most) { // refused: alarm: the stream may be anything behind sorted()
+    public List<String> richest(int most) { // accepted
         long stamp = lock.readLock();
         try {
             return balances.entrySet().stream().sorted(Map.Entry.<String, Long>comparingByValue().reversed())

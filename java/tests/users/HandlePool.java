@@ -113,7 +113,7 @@ public class HandlePool<T> {
         return true;
     }
 
-    public synchronized boolean growLocked() { // refused: alarm: the maker may do anything, and runs under the lock
+    public synchronized boolean growLocked() { // refused: fault: the maker of the caller is run in the middle
         if (shut || slots.size() >= most) {
             return false;
         }

@@ -33,7 +33,7 @@ public class LineText implements Appendable, CharSequence, Iterable<String> {
     }
 
     @Override
-    public synchronized LineText append(char letter) { // refused: alarm: the function in count() is judged by itself, as if it ran without the lock
+    public synchronized LineText append(char letter) { // accepted
         room(1);
         text[length++] = letter;
         if (letter == '\n') {
@@ -61,7 +61,7 @@ public class LineText implements Appendable, CharSequence, Iterable<String> {
         return append('\n');
     }
 
-    public synchronized void addAll(char... letters) { // refused: alarm: as for append
+    public synchronized void addAll(char... letters) { // accepted
         room(letters.length);
         System.arraycopy(letters, 0, text, length, letters.length);
         for (int k = 0; k < letters.length; k++) {
@@ -124,7 +124,7 @@ public class LineText implements Appendable, CharSequence, Iterable<String> {
     }
 
     @Override
-    public Iterator<String> iterator() { // refused: alarm: the lines of a text are taken as a stream of which nothing is known
+    public Iterator<String> iterator() { // accepted
         final var all = toString();
         return all.lines().iterator();
     }
@@ -136,7 +136,7 @@ public class LineText implements Appendable, CharSequence, Iterable<String> {
         version++;
     }
 
-    public synchronized int count(char wanted) { // refused: alarm: the function is only called here, under the lock
+    public synchronized int count(char wanted) { // accepted
         IntPredicate isWanted = at -> text[at] == wanted;
         int count = 0;
         for (int k = 0; k < length; k++) {

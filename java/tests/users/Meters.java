@@ -46,11 +46,11 @@ public final class Meters {
             return name;
         }
 
-        public void see(long value) { // refused: alarm: the function calls a method, which only makes a new reading
+        public void see(long value) { // accepted
             reading.updateAndGet(known -> known.with(value));
         }
 
-        public boolean seeIfMore(long value) { // refused: alarm: a turn calls such a method
+        public boolean seeIfMore(long value) { // accepted
             for (;;) {
                 var known = reading.get();
                 if (value <= known.most()) {
@@ -100,7 +100,7 @@ public final class Meters {
         return Shared.ALL;
     }
 
-    public Meter meter(String name) { // refused: alarm: the constructor only keeps its name
+    public Meter meter(String name) { // accepted
         return meters.computeIfAbsent(name, Meter::new);
     }
 

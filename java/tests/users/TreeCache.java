@@ -71,7 +71,7 @@ public class TreeCache<K extends Comparable<K>, V> {
         return figures;
     }
 
-    public Optional<V> find(K key) { // refused: alarm: a node goes into an Optional, so it is taken to get out
+    public Optional<V> find(K key) { // accepted
         synchronized (guard) {
             var node = search(key);
             if (node != null) {
@@ -81,7 +81,7 @@ public class TreeCache<K extends Comparable<K>, V> {
         }
     }
 
-    public Optional<V> findAndCount(K key) { // refused: alarm: as for find
+    public Optional<V> findAndCount(K key) { // refused: fault: calls() looks at the figures without their lock, and at each in two halves
         synchronized (guard) {
             var found = find(key);
             figures.count(found.isPresent());
@@ -181,7 +181,7 @@ public class TreeCache<K extends Comparable<K>, V> {
         }
     }
 
-    public boolean forget(K key) { // refused: alarm: the nodes are taken to get out, as for find
+    public boolean forget(K key) { // refused: alarm: perhaps: remove() calls itself, and is taken to count down more than once, which size() sees
         synchronized (guard) {
             int before = size;
             root = remove(root, key);
@@ -197,7 +197,7 @@ public class TreeCache<K extends Comparable<K>, V> {
         return size;
     }
 
-    public List<K> keys() { // refused: alarm: as for forget
+    public List<K> keys() { // accepted
         var keys = new ArrayList<K>();
         synchronized (guard) {
             collect(root, keys);

@@ -38,11 +38,17 @@ public record Choice(Kind kind, boolean calls, boolean fills, boolean keeps, boo
 
     /** Whether a function among the arguments runs within the call: so it does where nothing is kept and nothing waits. */
     public boolean runsFunctions() {
-        return calls || !keeps && (kind == Kind.PURE || kind == Kind.ASSUMED);
+        return calls || !keeps && switch (kind) {
+            case PURE, ASSUMED, READS, WRITES -> true;
+            default -> false;
+        };
     }
 
     /** A method that no row speaks of. */
     public static final Choice UNKNOWN = new Choice(Kind.UNKNOWN, false, false, true, false, null);
+
+    /** What gives a part of a record. */
+    public static final Choice ACCESSOR = new Choice(Kind.PURE, false, false, false, false, null);
 
     /** The making of an object of a class that no row speaks of, which keeps what it is made of and does nothing else. */
     static final Choice MADE = new Choice(Kind.PURE, false, false, true, false, null);

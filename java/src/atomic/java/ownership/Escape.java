@@ -27,7 +27,10 @@ import java.util.Set;
 import javax.lang.model.element.Element;
 import javax.lang.model.element.ElementKind;
 import javax.lang.model.element.ExecutableElement;
+import javax.lang.model.element.TypeElement;
 import javax.lang.model.element.VariableElement;
+import javax.lang.model.type.ArrayType;
+import javax.lang.model.type.DeclaredType;
 import javax.lang.model.type.TypeMirror;
 
 /** Whether the object that an expression gives may be reached by others through what is done with it. */
@@ -35,6 +38,9 @@ public final class Escape {
 
     /** How many names of an object are followed. */
     private static final int MOST_NAMES = 6;
+
+    /** What makes other threads run a pipeline. */
+    private static final Set<String> PARALLEL = Set.of("parallel", "parallelStream", "parallelSetAll", "parallelPrefix");
 
     /** The object doesn't get away. */
     public static final long NEVER = Long.MAX_VALUE;
@@ -51,7 +57,7 @@ public final class Escape {
         this.program = program;
         this.uses = uses;
         attribution = program.attribution();
-        selves = new Selves(program, this);
+        selves = new Selves(program, uses, this);
         results = new Results(attribution);
     }
 
@@ -75,7 +81,7 @@ public final class Escape {
             return assignment.getExpression() == use ? Math.min(further, into(assignment.getVariable(), assignment))
                 : further;
         } else if (parent instanceof VariableTree variable) {
-            return through(attribution.element(variable));
+            return isOwnField(attribution.element(variable), use) ? NEVER : through(attribution.element(variable));
         } else if (parent instanceof ReturnTree) {
             return attribution.end(parent);
         } else if (parent instanceof MemberReferenceTree reference) {
@@ -100,7 +106,7 @@ public final class Escape {
 
     private long asReceiver(MemberSelectTree select) {
         if (!(attribution.parent(select) instanceof MethodInvocationTree call) || call.getMethodSelect() != select) {
-            return NEVER;
+            return uses.mayHoldItself(attribution.element(select)) && !uses.isTarget(select) ? from(select) : NEVER;
         }
         if (!(attribution.element(select) instanceof ExecutableElement symbol)) {
             return attribution.start(call);
@@ -113,11 +119,30 @@ public final class Escape {
             return from(call);
         }
         Choice choice = choose(select, symbol);
-        return switch (choice.kind()) {
+        return Math.min(asEntry(call), switch (choice.kind()) {
             case VIEW, PIPE -> from(call);
             case UNKNOWN -> unknown(call);
             default -> results.isEntry(call) ? from(call) : NEVER;
-        };
+        });
+    }
+
+    /** A function of a map's entries, which are parts of the map, may let one get away. */
+    private long asEntry(MethodInvocationTree call) {
+        long first = NEVER;
+        for (ExpressionTree argument : call.getArguments()) {
+            ExpressionTree bare = Uses.bare(argument);
+            if (bare instanceof LambdaExpressionTree lambda) {
+                for (VariableTree each : lambda.getParameters()) {
+                    Element symbol = attribution.element(each);
+                    first = symbol == null || !results.mentionsEntry(symbol.asType()) ? first
+                        : Math.min(first, isCalledAtOnce(lambda) ? through(symbol) : attribution.start(lambda));
+                }
+            } else if (bare instanceof MemberReferenceTree && results.mentionsEntry(attribution.type(bare))
+                    && !attribution.element(bare).getEnclosingElement().toString().equals("java.util.Map.Entry")) {
+                first = Math.min(first, attribution.start(bare));
+            }
+        }
+        return first;
     }
 
     /** Whether a library's method gives the object that it is called on, so that calls can be chained. */
@@ -178,10 +203,20 @@ public final class Escape {
 
     /** What the table says of a library call. */
     public Choice choose(ExpressionTree select, ExecutableElement symbol) {
+        if (isAccessor(symbol)) {
+            return Choice.ACCESSOR;
+        }
         TypeMirror type = select instanceof MemberSelectTree member ? attribution.type(member.getExpression()) : null;
         boolean isStatic = symbol.getModifiers().contains(javax.lang.model.element.Modifier.STATIC);
         return program.library().choose(type == null || isStatic ? symbol.getEnclosingElement().asType() : type,
             Library.key(symbol));
+    }
+
+    /** Whether a method is a record's own, which nobody wrote: it gives a part that never changes. */
+    public boolean isAccessor(ExecutableElement symbol) {
+        return symbol.getEnclosingElement() instanceof TypeElement home && home.getKind() == ElementKind.RECORD
+            && program.find(home) != null && program.method(symbol) == null && symbol.getParameters().isEmpty()
+            && home.getRecordComponents().stream().anyMatch(each -> each.getSimpleName().equals(symbol.getSimpleName()));
     }
 
     private boolean isBorrowed(NewClassTree made) {
@@ -194,8 +229,19 @@ public final class Escape {
             || choice.kind() == Choice.Kind.UNKNOWN && !mayKeep(choice);
     }
 
+    /** Whether a field is one of the object itself that is put there: nobody gets at it by that alone. */
+    private boolean isOwnField(Element symbol, Tree use) {
+        return symbol instanceof VariableElement field && field.getKind() == ElementKind.FIELD
+            && !field.getModifiers().contains(javax.lang.model.element.Modifier.STATIC) && uses.isThis(use)
+            && attribution.type(use) instanceof DeclaredType self && self.asElement() == field.getEnclosingElement();
+    }
+
     private long into(ExpressionTree target, AssignmentTree assignment) {
         Element symbol = attribution.element(Uses.bare(target));
+        if (isOwnField(symbol, assignment.getExpression()) && (Uses.bare(target).getKind() == Tree.Kind.IDENTIFIER
+                || Uses.bare(target) instanceof MemberSelectTree select && uses.isThis(select.getExpression()))) {
+            return NEVER;
+        }
         boolean local = symbol instanceof VariableElement && symbol.getKind() != ElementKind.FIELD
             && !(Uses.bare(target) instanceof ArrayAccessTree);
         return local ? through(symbol) : attribution.end(assignment);
@@ -250,20 +296,51 @@ public final class Escape {
         if (parent instanceof MethodInvocationTree call
                 && attribution.element(call) instanceof ExecutableElement symbol && program.method(symbol) == null) {
             Choice choice = choose(call.getMethodSelect(), symbol);
-            return choice.runsFunctions() || choice.kind() == Choice.Kind.PIPE && endsAtOnce(call);
+            return isTaken(call, call.getArguments().indexOf(function)) && !isParallel(call)
+                && (choice.runsFunctions() || choice.kind() == Choice.Kind.PIPE && endsAtOnce(call));
         }
         return false;
     }
 
-    /** Whether a pipeline is run in the expression that makes it. */
+    /** Whether other threads may call the functions of a pipeline, which then hold nothing of what is held here. */
+    private static boolean isParallel(MethodInvocationTree stage) {
+        for (ExpressionTree each = stage; each instanceof MethodInvocationTree call
+                && call.getMethodSelect() instanceof MemberSelectTree select; each = select.getExpression()) {
+            if (PARALLEL.contains(select.getIdentifier().toString())) {
+                return true;
+            }
+        }
+        return false;
+    }
+
+    /**
+     * Whether a callee takes an argument as more than any object, and so may call it. A list's {@code add} and
+     * {@code Thread.holdsLock} don't: what a parameter of any type is given can be kept, and not called.
+     */
+    public boolean isTaken(Tree call, int at) {
+        if (!(attribution.element(call) instanceof ExecutableElement symbol) || symbol.getParameters().isEmpty()) {
+            return true;
+        }
+        int last = symbol.getParameters().size() - 1;
+        TypeMirror type = symbol.getParameters().get(Math.min(Math.max(at, 0), last)).asType();
+        boolean rest = symbol.isVarArgs() && at >= last && type instanceof ArrayType;
+        TypeMirror wanted = rest ? ((ArrayType) type).getComponentType() : type;
+        return !attribution.types().erasure(wanted).toString().equals("java.lang.Object");
+    }
+
+    /** Whether a pipeline is run in the expression that makes it, or within the one whose {@code flatMap} it is made for. */
     private boolean endsAtOnce(MethodInvocationTree stage) {
         Tree select = attribution.parent(stage);
+        if (select instanceof LambdaExpressionTree lambda && attribution.parent(lambda) instanceof MethodInvocationTree around
+                && attribution.element(around).getSimpleName().toString().startsWith("flatMap")) {
+            return isCalledAtOnce(lambda);
+        }
         if (!(select instanceof MemberSelectTree member)
                 || !(attribution.parent(select) instanceof MethodInvocationTree next)
                 || !(attribution.element(member) instanceof ExecutableElement symbol)) {
             return false;
         }
         Choice choice = choose(member, symbol);
-        return choice.kind() == Choice.Kind.RUN || choice.kind() == Choice.Kind.PIPE && endsAtOnce(next);
+        return !isParallel(next) && (choice.kind() == Choice.Kind.RUN || choice.kind() == Choice.Kind.PIPE && endsAtOnce(next));
     }
 }

@@ -1,12 +1,12 @@
 package atomic.java.ownership;
 
 import atomic.java.attribution.Attribution;
-import atomic.java.library.Choice;
 import atomic.java.places.Notes;
 import atomic.java.program.JavaClass;
 import atomic.java.program.JavaMethod;
 import atomic.java.program.Program;
 import com.sun.source.tree.AssignmentTree;
+import com.sun.source.tree.CaseTree;
 import com.sun.source.tree.ClassTree;
 import com.sun.source.tree.ConditionalExpressionTree;
 import com.sun.source.tree.EnhancedForLoopTree;
@@ -17,12 +17,15 @@ import com.sun.source.tree.MemberReferenceTree;
 import com.sun.source.tree.MemberSelectTree;
 import com.sun.source.tree.MethodInvocationTree;
 import com.sun.source.tree.MethodTree;
+import com.sun.source.tree.NewArrayTree;
 import com.sun.source.tree.NewClassTree;
 import com.sun.source.tree.ReturnTree;
+import com.sun.source.tree.SwitchExpressionTree;
 import com.sun.source.tree.SynchronizedTree;
 import com.sun.source.tree.Tree;
 import com.sun.source.tree.TypeCastTree;
 import com.sun.source.tree.VariableTree;
+import com.sun.source.tree.YieldTree;
 import com.sun.source.util.TreeScanner;
 import java.util.HashMap;
 import java.util.List;
@@ -32,9 +35,6 @@ import javax.lang.model.element.ElementKind;
 import javax.lang.model.element.ExecutableElement;
 import javax.lang.model.element.Modifier;
 import javax.lang.model.element.VariableElement;
-import javax.lang.model.type.ArrayType;
-import javax.lang.model.type.DeclaredType;
-import javax.lang.model.type.TypeMirror;
 
 /**
  * Which nested classes are those of a container's nodes: made in the container only, never let out, and never reached
@@ -73,8 +73,10 @@ public final class Nodes {
         if (!hidden || !plain) {
             return false;
         }
-        boolean linked = mentionedByFields(each, outer);
-        Test test = new Test(each, outer);
+        NodeTypes types = new NodeTypes(attribution, each);
+        boolean linked = outer.symbol().getEnclosedElements().stream().anyMatch(field ->
+            field.getKind() == ElementKind.FIELD && types.mentions(field.asType()));
+        Test test = new Test(outer, types);
         mentions.units(each.symbol(), outer.symbol()).forEach(unit -> test.scan(unit, null));
         if (linked && test.holds && !each.symbol().getModifiers().contains(Modifier.PRIVATE)) {
             program.notes().tell(Notes.Kind.ASSUMED, null, attribution.name(each.tree()), "no code outside these files"
@@ -83,35 +85,21 @@ public final class Nodes {
         return linked && test.holds;
     }
 
-    private boolean mentionedByFields(JavaClass node, JavaClass outer) {
-        return outer.symbol().getEnclosedElements().stream().anyMatch(field -> field.getKind() == ElementKind.FIELD
-            && mentions(field.asType(), node));
-    }
-
-    /** Whether a type is the node's, or an array or a collection of such. */
-    private boolean mentions(TypeMirror type, JavaClass node) {
-        if (type instanceof ArrayType array) {
-            return mentions(array.getComponentType(), node);
-        }
-        return is(type, node) || type instanceof DeclaredType declared
-            && declared.getTypeArguments().stream().anyMatch(each -> mentions(each, node));
-    }
-
-    private boolean is(TypeMirror type, JavaClass node) {
-        return type instanceof DeclaredType declared && declared.asElement().equals(node.symbol());
-    }
-
     /** Looks at all that is done with nodes. */
     private final class Test extends TreeScanner<Void, Void> {
         private final JavaClass node;
         private final JavaClass outer;
+        private final NodeTypes types;
+        private final NodeCalls calls;
         private JavaClass current;
         private boolean inStatic;
         private boolean holds = true;
 
-        Test(JavaClass node, JavaClass outer) {
-            this.node = node;
+        Test(JavaClass outer, NodeTypes types) {
+            node = types.node();
             this.outer = outer;
+            this.types = types;
+            calls = new NodeCalls(program, ownership, types);
         }
 
         private void need(boolean condition) {
@@ -139,13 +127,13 @@ public final class Nodes {
         @Override
         public Void visitVariable(VariableTree tree, Void nothing) {
             Element symbol = attribution.element(tree);
-            if (symbol != null && symbol.getKind() == ElementKind.FIELD && mentions(symbol.asType(), node)) {
+            if (symbol != null && symbol.getKind() == ElementKind.FIELD && types.mentions(symbol.asType())) {
                 boolean inside = current == node || current == outer || current != null && hasContainer(current);
                 need(inside && !symbol.getModifiers().contains(Modifier.STATIC)
                     && !symbol.getModifiers().contains(Modifier.PUBLIC));
             }
             if (tree.getInitializer() != null && isNodes(tree.getInitializer())) {
-                need(symbol != null && mentions(symbol.asType(), node));
+                need(symbol != null && types.mentions(symbol.asType()));
             }
             return super.visitVariable(tree, nothing);
         }
@@ -155,8 +143,7 @@ public final class Nodes {
         }
 
         private boolean isNodes(ExpressionTree tree) {
-            TypeMirror type = attribution.type(tree);
-            return type != null && mentions(type, node);
+            return types.isNodes(tree);
         }
 
         @Override
@@ -171,18 +158,13 @@ public final class Nodes {
         @Override
         public Void visitMemberSelect(MemberSelectTree tree, Void nothing) {
             Element symbol = attribution.element(tree);
-            boolean leads = symbol instanceof VariableElement field && mentions(field.asType(), node)
-                || symbol instanceof ExecutableElement method && signature(method);
+            boolean leads = symbol instanceof VariableElement field && types.mentions(field.asType())
+                || symbol instanceof ExecutableElement method && types.inSignature(method);
             if (leads && !symbol.getEnclosingElement().equals(node.symbol())
                     && program.find(symbol.getEnclosingElement()) != null) {
                 need(isSelf(tree.getExpression()));
             }
             return super.visitMemberSelect(tree, nothing);
-        }
-
-        private boolean signature(ExecutableElement method) {
-            return mentions(method.getReturnType(), node)
-                || method.getParameters().stream().anyMatch(each -> mentions(each.asType(), node));
         }
 
         private boolean isSelf(ExpressionTree tree) {
@@ -194,47 +176,17 @@ public final class Nodes {
         public Void visitMethodInvocation(MethodInvocationTree tree, Void nothing) {
             Element symbol = attribution.element(tree);
             JavaMethod method = program.method(symbol);
-            List<? extends ExpressionTree> arguments = tree.getArguments();
-            boolean given = false;
-            for (int k = 0; k < arguments.size(); k++) {
-                if (isNodes(arguments.get(k)) && !(Uses.bare(arguments.get(k)) instanceof LambdaExpressionTree)) {
-                    given = true;
-                    need(method != null ? takesNode(method, k) : isKept(tree));
-                }
-            }
-            boolean holder = tree.getMethodSelect() instanceof MemberSelectTree select && isNodes(select.getExpression());
-            if (method == null && (given || holder)) {
-                arguments.forEach(each -> need(!isFunction(each) || isAtHand(each)));
-                need(isNodes(tree) || isValue(attribution.type(tree)));
-            }
+            need(method == null ? calls.isHarmless(tree) : takesNodes(method, tree.getArguments()));
             need(!(symbol != null && symbol.getSimpleName().contentEquals("clone") && current == outer
                 && tree.getMethodSelect().toString().startsWith("super.")));
             return super.visitMethodInvocation(tree, nothing);
-        }
-
-        /** Whether an argument is an object with a function, which the callee then gives nodes. */
-        private boolean isFunction(ExpressionTree tree) {
-            return attribution.type(tree) instanceof DeclaredType declared && declared.asElement().getAnnotationMirrors()
-                .stream().anyMatch(each -> each.getAnnotationType().toString().equals("java.lang.FunctionalInterface"));
-        }
-
-        /** Whether it is known what the function does: a lambda, or a method of the sources. */
-        private boolean isAtHand(ExpressionTree tree) {
-            ExpressionTree function = Uses.bare(tree);
-            return function instanceof LambdaExpressionTree || function instanceof MemberReferenceTree reference
-                && program.method(attribution.element(reference)) != null;
-        }
-
-        /** Whether a result can't be a node, nor lead to one, though its type doesn't say so. */
-        private boolean isValue(TypeMirror type) {
-            return type == null || !(type instanceof ArrayType) && !type.toString().equals("java.lang.Object");
         }
 
         /** What gives a node has to say so by its type. */
         @Override
         public Void visitEnhancedForLoop(EnhancedForLoopTree tree, Void nothing) {
             Element variable = attribution.element(tree.getVariable());
-            need(!isNodes(tree.getExpression()) || variable != null && mentions(variable.asType(), node));
+            need(!isNodes(tree.getExpression()) || variable != null && types.mentions(variable.asType()));
             return super.visitEnhancedForLoop(tree, nothing);
         }
 
@@ -250,36 +202,53 @@ public final class Nodes {
             return super.visitConditionalExpression(tree, nothing);
         }
 
-        private boolean takesNode(JavaMethod method, int k) {
+        /** Whether a method of the container, or of what belongs to one, says of each node that it is given that it is one. */
+        private boolean takesNodes(JavaMethod method, List<? extends ExpressionTree> arguments) {
             List<? extends VariableElement> parameters = method.symbol().getParameters();
-            return k < parameters.size() && mentions(parameters.get(k).asType(), node)
-                && (method.owner() == outer || method.owner() == node || hasContainer(method.owner()));
-        }
-
-        /** A library's method may have a node where it puts it into a collection of the container, or only looks. */
-        private boolean isKept(MethodInvocationTree tree) {
-            if (!(attribution.element(tree) instanceof ExecutableElement symbol)) {
-                return false;
+            boolean own = method.owner() == outer || method.owner() == node || hasContainer(method.owner());
+            for (int k = 0; k < arguments.size(); k++) {
+                boolean given = isNodes(arguments.get(k)) && !(Uses.bare(arguments.get(k)) instanceof LambdaExpressionTree);
+                if (given && !(own && k < parameters.size() && types.mentions(parameters.get(k).asType()))) {
+                    return false;
+                }
             }
-            Choice choice = ownership.escape().choose(tree.getMethodSelect(), symbol);
-            return choice.kind() == Choice.Kind.PURE && !choice.keeps() || isOnOwn(tree);
-        }
-
-        /** Whether a method is called on a collection of the container that doesn't get out. */
-        private boolean isOnOwn(MethodInvocationTree tree) {
-            Element field = tree.getMethodSelect() instanceof MemberSelectTree select
-                ? attribution.element(select.getExpression()) : null;
-            return field instanceof VariableElement variable && field.getKind() == ElementKind.FIELD
-                && ownership.owns(variable);
+            return true;
         }
 
         @Override
         public Void visitNewClass(NewClassTree tree, Void nothing) {
             JavaClass made = program.find(attribution.type(tree));
-            need(made == node || made != null && made.hasOuterObject()
-                || tree.getArguments().stream().noneMatch(this::isNodes));
+            JavaMethod constructor = program.method(attribution.element(tree));
+            boolean given = tree.getArguments().stream().anyMatch(this::isNodes);
+            boolean here = tree.getEnclosingExpression() == null || isSelf(tree.getEnclosingExpression());
+            need(!given || (made == null ? calls.isHarmless(tree)
+                : here && constructor != null && takesNodes(constructor, tree.getArguments())));
+            need(made == null || made == node || !isNodes(tree));
             need(made != node || tree.getClassBody() == null);
             return super.visitNewClass(tree, nothing);
+        }
+
+        @Override
+        public Void visitNewArray(NewArrayTree tree, Void nothing) {
+            boolean given = tree.getInitializers() != null && tree.getInitializers().stream().anyMatch(this::isNodes);
+            boolean said = isNodes(tree) || attribution.parent(tree) instanceof VariableTree variable
+                && attribution.element(variable) != null && types.mentions(attribution.element(variable).asType());
+            need(!given || said);
+            return super.visitNewArray(tree, nothing);
+        }
+
+        @Override
+        public Void visitYield(YieldTree tree, Void nothing) {
+            SwitchExpressionTree around = calls.around(tree, SwitchExpressionTree.class);
+            need(!isNodes(tree.getValue()) || around != null && isNodes(around));
+            return super.visitYield(tree, nothing);
+        }
+
+        @Override
+        public Void visitCase(CaseTree tree, Void nothing) {
+            need(!(tree.getBody() instanceof ExpressionTree value && isNodes(value))
+                || attribution.parent(tree) instanceof SwitchExpressionTree around && isNodes(around));
+            return super.visitCase(tree, nothing);
         }
 
         @Override
@@ -292,9 +261,13 @@ public final class Nodes {
         public Void visitReturn(ReturnTree tree, Void nothing) {
             if (tree.getExpression() != null && isNodes(tree.getExpression())) {
                 Tree around = program.around(tree);
+                if (around instanceof LambdaExpressionTree lambda) {
+                    need(calls.mayGive(lambda));
+                    return super.visitReturn(tree, nothing);
+                }
                 JavaMethod method = around instanceof MethodTree ? program.method(attribution.element(around)) : null;
                 boolean hidden = node.symbol().getModifiers().contains(Modifier.PRIVATE);
-                need(method != null && mentions(method.symbol().getReturnType(), node)
+                need(method != null && types.mentions(method.symbol().getReturnType())
                     && !method.symbol().getModifiers().contains(Modifier.PUBLIC)
                     && (hidden || method.isPrivate() || isHidden(method.owner()) || isCalled(method)));
             }
@@ -311,12 +284,21 @@ public final class Nodes {
             return !ownership.sites().of(method.symbol()).isEmpty();
         }
 
-        /** A function may get nodes, which only the container has to give, and give one to the container's collection. */
+        /** A function may get nodes, which only the container has to give, and give one where that is said. */
         @Override
         public Void visitLambdaExpression(LambdaExpressionTree tree, Void nothing) {
-            need(!(tree.getBody() instanceof ExpressionTree value && isNodes(value))
-                || attribution.parent(tree) instanceof MethodInvocationTree call && isOnOwn(call));
+            need(!(tree.getBody() instanceof ExpressionTree value && isNodes(value)) || calls.mayGive(tree));
             return super.visitLambdaExpression(tree, nothing);
+        }
+
+        @Override
+        public Void visitMemberReference(MemberReferenceTree tree, Void nothing) {
+            if (attribution.element(tree) instanceof ExecutableElement symbol) {
+                boolean makes = symbol.getKind() == ElementKind.CONSTRUCTOR && symbol.getEnclosingElement() == node.symbol();
+                need(!makes && !types.mentions(symbol.getReturnType()) || calls.mayGive(tree));
+                need(program.method(symbol) == null || calls.isOwn(tree, program.method(symbol)));
+            }
+            return super.visitMemberReference(tree, nothing);
         }
 
         @Override

@@ -43,6 +43,7 @@ public final class Ownership {
     private final Escape escape;
     private final Looks looks;
     private final Sites sites;
+    private final LocalFunctions localFunctions;
     private final Map<VariableElement, String> made = new HashMap<>();
     private final Map<JavaMethod, String> given = new HashMap<>();
     private final Map<VariableElement, Long> escapes = new HashMap<>();
@@ -58,6 +59,7 @@ public final class Ownership {
         escape = new Escape(program, uses);
         looks = new Looks(program, uses, escape);
         sites = new Sites(program);
+        localFunctions = new LocalFunctions(program, uses, escape);
     }
 
     Uses uses() {
@@ -70,6 +72,11 @@ public final class Ownership {
 
     public Escape escape() {
         return escape;
+    }
+
+    /** The functions in locals that are only called. */
+    public LocalFunctions localFunctions() {
+        return localFunctions;
     }
 
     /** Finds the fields whose objects stay within their classes, under whatever names. */

@@ -27,11 +27,13 @@ public final class Selves {
     private final Program program;
     private final Attribution attribution;
     private final Escape escape;
+    private final Uses uses;
     private final Map<JavaMethod, Long> known = new HashMap<>();
     private UnaryOperator<JavaClass> containers = each -> null;
 
-    Selves(Program program, Escape escape) {
+    Selves(Program program, Uses uses, Escape escape) {
         this.program = program;
+        this.uses = uses;
         this.escape = escape;
         attribution = program.attribution();
     }
@@ -117,11 +119,22 @@ public final class Selves {
                     leak(tree);
                 }
             }
+            itself(tree);
             return null;
+        }
+
+        /** A field that may hold this object is one more name of it. */
+        private void itself(Tree tree) {
+            if (uses.mayHoldItself(attribution.element(tree)) && !uses.isTarget(tree) && escape.from(tree) != Escape.NEVER) {
+                leak(tree);
+            }
         }
 
         @Override
         public Void visitMemberSelect(MemberSelectTree tree, Void nothing) {
+            if (uses.isThis(tree.getExpression())) {
+                itself(tree);
+            }
             if (tree.getIdentifier().contentEquals("this") && attribution.element(tree) != null
                     && escape.from(tree) != Escape.NEVER) {
                 leak(tree);

@@ -178,6 +178,24 @@ public final class Uses {
         return !classes.isEmpty() && (classes.contains(null) || classes.contains(field.getEnclosingElement()));
     }
 
+    /** Whether an expression is {@code this}, or an assignment of it. */
+    boolean isThis(Tree tree) {
+        ExpressionTree bare = tree instanceof ExpressionTree expression ? bare(expression) : null;
+        return bare instanceof IdentifierTree name && name.getName().contentEquals("this")
+            || bare instanceof AssignmentTree assignment && isThis(assignment.getExpression());
+    }
+
+    /** Whether a field may lead from an object to that object itself, which is then known by this name too. */
+    boolean mayHoldItself(Element field) {
+        return field != null && field.getKind() == ElementKind.FIELD && assignments(field).stream().anyMatch(each ->
+            each.value() != null && isThis(each.value()));
+    }
+
+    /** Whether a name stands for what is assigned. */
+    boolean isTarget(Tree name) {
+        return attribution.parent(name) instanceof AssignmentTree assignment && assignment.getVariable() == name;
+    }
+
     public VariableTree declaration(Element variable) {
         return declared.get(variable);
     }

@@ -138,6 +138,7 @@ public final class Waiting {
     /** Goes through one method. */
     private final class Walk {
         private final Method method;
+        private int refused;
 
         Walk(Method method) {
             this.method = method;
@@ -174,9 +175,10 @@ public final class Waiting {
 
         private Part loop(Part.Repeat repeat, State state) {
             if (looks(repeat.body())) {
+                int before = refused;
                 Part body = waitsOf(repeat.body(), state);
                 state.touched = true;
-                return new Part.Repeat(body, repeat.place());
+                return before == refused ? new Part.Either(body, Part.NOTHING) : new Part.Repeat(body, repeat.place());
             }
             boolean before = state.repeated;
             state.repeated = true;
@@ -190,6 +192,8 @@ public final class Waiting {
                 return part.map(each -> waitsOf(each, state));
             } else if (wait.lock() == null || !wait.lock().equals(state.lock)) {
                 return refuse(wait, "its lock isn't the one of the region that it stands in");
+            } else if (wait.kept() != null) {
+                return refuse(wait, "a turn before it keeps something in " + wait.kept());
             } else if (state.touched || state.repeated) {
                 return refuse(wait, "something was done before it in its region");
             } else if (mayBeHeld(wait.lock())) {
@@ -208,6 +212,7 @@ public final class Waiting {
         }
 
         private Part refuse(Part.Wait wait, String why) {
+            refused++;
             tell(Notes.Kind.APPROXIMATED, wait.place(), "wait: others can see what was done before it, since " + why);
             return new Part.Call(compound.receiver(), compound.target(), List.of(), wait.place());
         }

@@ -33,8 +33,8 @@ public sealed interface Part {
     /** A final local from here on, either a second name of a path or an object of its own. */
     record Local(Path.Root variable, Path value) implements Part { }
 
-    /** A wait for a condition of a lock; {@code retried} says that it stands in a loop that only looks. */
-    record Wait(Path lock, boolean retried, Place place) implements Part { }
+    /** A wait for a condition of a lock; {@code kept} names what a turn of the loop around it keeps, and is else null. */
+    record Wait(Path lock, String kept, Place place) implements Part { }
 
     /** A sequence without empty parts. */
     static Part sequence(List<Part> parts) {

@@ -77,7 +77,7 @@ final class Accesses {
         Value holder = holder(source, home, receiver);
         if (body.stable().contains(field) && isOwn(at)) {
             services.methods().repeats(services.attribution().name(at), services.attribution().name(at));
-        } else if (!settled) {
+        } else if (!settled && !(looksAgain(field, at) && services.program().sure())) {
             access(holder, home.field(), false, at);
         }
         if (owned) {
@@ -88,6 +88,16 @@ final class Accesses {
                 : new Value.Owned(inside, contents.field(), own);
         }
         return settled ? behind(holder, home.field()) : new Value.Opaque(home.field().type());
+    }
+
+    /** Whether this is a second look at a flag that never goes back, which may tell nothing new; that is told. */
+    private boolean looksAgain(VariableElement field, Tree at) {
+        boolean again = isOwn(at) && new Flags(services).never(field) && body.looksAgain(field);
+        if (again) {
+            services.tell(Notes.Kind.APPROXIMATED, body, at, "second look: " + field.getSimpleName()
+                + " never goes back, so this look may tell nothing new, and counts as a step all the same");
+        }
+        return again;
     }
 
     /** Reads a field that has the object of another one, of an object around. */

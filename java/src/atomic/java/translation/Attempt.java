@@ -194,36 +194,14 @@ record Attempt(MethodInvocationTree look, MethodInvocationTree change, VariableE
 
         @Override
         public Void visitMethodInvocation(MethodInvocationTree tree, Void nothing) {
-            boolean own = tree == look || tree == change;
-            holds &= own || services.attribution().element(tree) instanceof ExecutableElement symbol
-                && services.program().method(symbol) == null && Retries.onlyComputes(
-                    services.ownership().escape().choose(tree.getMethodSelect(), symbol));
+            holds &= tree == look || tree == change || services.computing().only(tree);
             return super.visitMethodInvocation(tree, nothing);
         }
 
         @Override
         public Void visitNewClass(NewClassTree tree, Void nothing) {
-            JavaMethod constructor = services.program().method(services.attribution().element(tree));
-            holds &= tree.getClassBody() == null && (constructor != null ? keepsOnly(constructor)
-                : services.program().find(services.attribution().type(tree)) == null && Retries.onlyComputes(
-                    services.program().library().choose(services.attribution().type(tree), "new")));
+            holds &= services.computing().only(tree);
             return super.visitNewClass(tree, nothing);
-        }
-
-        /** Whether a constructor does nothing but keep what it is given in fields of the new object. */
-        private boolean keepsOnly(JavaMethod constructor) {
-            boolean plain = constructor.owner().symbol().getSuperclass().toString().equals("java.lang.Object")
-                && constructor.owner().tree().getMembers().stream().noneMatch(each -> each instanceof BlockTree
-                || each instanceof VariableTree field && field.getInitializer() != null);
-            return plain && constructor.tree().getBody().getStatements().stream().allMatch(each ->
-                each instanceof ExpressionStatementTree statement && (statement.getExpression().toString().equals("super()")
-                || statement.getExpression() instanceof AssignmentTree assignment && isValue(assignment.getExpression())
-                && services.attribution().element(assignment.getVariable()) instanceof VariableElement field
-                && field.getEnclosingElement() == constructor.owner().symbol()));
-        }
-
-        private boolean isValue(ExpressionTree tree) {
-            return tree instanceof IdentifierTree || tree instanceof LiteralTree;
         }
     }
 }

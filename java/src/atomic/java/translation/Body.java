@@ -31,6 +31,9 @@ final class Body {
     private final Map<VariableElement, Value> locals = new HashMap<>();
     private Set<VariableElement> stable = Set.of();
     private final Set<String> taken = new HashSet<>();
+    private final Set<VariableElement> flags = new HashSet<>();
+    private final Leavings leavings;
+    private Value element = Value.OPAQUE;
     private List<Part> sink = new ArrayList<>();
     private int depth;
     private JavaClass starting;
@@ -41,6 +44,7 @@ final class Body {
         this.target = target;
         this.owner = owner;
         this.freshUntil = freshUntil;
+        leavings = new Leavings(services);
         target.parameters().forEach(each -> taken.add(each.name()));
     }
 
@@ -76,6 +80,32 @@ final class Body {
 
     void stable(Set<VariableElement> fields) {
         stable = fields;
+    }
+
+    /** The branches that leave loops. */
+    Leavings leavings() {
+        return leavings;
+    }
+
+    /** Whether a flag that never goes back was looked at before in this body; from here on it was. */
+    boolean looksAgain(VariableElement flag) {
+        return !flags.add(flag);
+    }
+
+    /** What the entries of the map are a part of whose functions are written now. */
+    Value element() {
+        return element;
+    }
+
+    /** Writes functions that a call on this object calls. */
+    void over(Value object, Runnable work) {
+        Value before = element;
+        element = object;
+        try {
+            work.run();
+        } finally {
+            element = before;
+        }
     }
 
     void emit(Part part) {

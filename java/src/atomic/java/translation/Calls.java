@@ -205,6 +205,13 @@ final class Calls {
         return holder == null ? new Value.Fresh(null) : holder;
     }
 
+    /** An object of a method's class of which nothing else is known; nodes are this container's. */
+    private Value any(JavaMethod method, Tree tree) {
+        JavaClass container = services.nodes().container(method.owner());
+        Value holder = container == null ? null : body.object(container, services.attribution().start(tree));
+        return holder == null ? new Value.Opaque(method.owner().shape()) : new Value.Node(holder);
+    }
+
     /** What a name of a method calls, with arguments of which nothing is known. */
     void reference(MemberReferenceTree tree) {
         Element symbol = services.attribution().element(tree);
@@ -214,8 +221,7 @@ final class Calls {
         if (method != null && method.isConstructor()) {
             emit(services.methods().of(method), new Value.Fresh(null), List.of(new Value.Named(body.statics())), tree);
         } else if (method != null) {
-            Value receiver = isType ? new Value.Opaque(method.owner().shape())
-                : expressions.value(tree.getQualifierExpression());
+            Value receiver = isType ? any(method, tree) : expressions.value(tree.getQualifierExpression());
             List<Value> arguments = method.isStatic() ? List.of() : List.of(new Value.Named(body.statics()));
             invoke(method, receiver, arguments, tree);
         } else if (symbol instanceof ExecutableElement executable) {

@@ -1,5 +1,7 @@
 package atomic.java.translation;
 
+import atomic.java.ownership.Uses;
+import atomic.java.places.Notes;
 import atomic.java.program.JavaClass;
 import atomic.java.skeleton.Field;
 import atomic.java.skeleton.Method;
@@ -39,7 +41,7 @@ final class Functions {
     /** Writes a lambda as a part of the body that it stands in. */
     void inline(LambdaExpressionTree tree, Body body) {
         for (VariableTree parameter : tree.getParameters()) {
-            new Locals(services, body).declare(parameter, new Value.Opaque(null));
+            new Locals(services, body).declare(parameter, new Iteration(services, body).element(parameter, body.element()));
         }
         if (tree.getBody() instanceof BlockTree block) {
             new Statements(services, body).all(block.getStatements());
@@ -48,15 +50,30 @@ final class Functions {
         }
     }
 
-    /** Makes a lambda a class of its own. */
+    /** Writes a function that is at hand where it is called. */
+    void inline(ExpressionTree function, Body body) {
+        if (function instanceof LambdaExpressionTree lambda) {
+            inline(lambda, body);
+        } else if (function instanceof MemberReferenceTree reference) {
+            new Calls(services, body).reference(reference);
+        }
+    }
+
+    /** Makes a lambda a class of its own, unless it is only called. */
     void apart(LambdaExpressionTree tree, Body around) {
+        if (services.ownership().localFunctions().isOnlyCalled(tree)) {
+            return;
+        }
         Method method = method(tree, around);
         Body body = body(tree, method, around);
         services.methods().later(() -> method.body(body.collect(() -> inline(tree, body))));
     }
 
-    /** Makes the name of a method a class of its own, whose method calls that one. */
+    /** Makes the name of a method a class of its own, whose method calls that one, unless it is only called. */
     void apart(MemberReferenceTree tree, Body around) {
+        if (services.ownership().localFunctions().isOnlyCalled(tree)) {
+            return;
+        }
         Method method = method(tree, around);
         Body body = body(tree, method, around);
         services.methods().later(() -> method.body(body.collect(() -> new Calls(services, body).reference(tree))));
@@ -100,43 +117,34 @@ final class Functions {
         return around.me(Long.MAX_VALUE) instanceof Value.Node ? new Value.Node(found) : found;
     }
 
-    /** Writes the functions among the arguments of a call that calls them, any number of times. */
+    /**
+     * Writes the functions among the arguments of a call that calls them, any number of times. What it takes as any object,
+     * as {@code Objects.requireNonNull} does, it doesn't call.
+     */
     void callAll(List<? extends ExpressionTree> arguments, Body body, Tree at) {
         for (int k = 0; k < arguments.size(); k++) {
-            ExpressionTree bare = atomic.java.ownership.Uses.bare(arguments.get(k));
+            ExpressionTree named = services.ownership().localFunctions().named(arguments.get(k));
+            ExpressionTree bare = named != null ? named : Uses.bare(arguments.get(k));
             Part part = Part.NOTHING;
-            if (bare instanceof LambdaExpressionTree lambda) {
+            if (!services.ownership().escape().isTaken(at, k)) {
+                continue;
+            } else if (bare instanceof LambdaExpressionTree lambda) {
                 part = body.collect(() -> inline(lambda, body));
             } else if (bare instanceof MemberReferenceTree reference) {
                 part = body.collect(() -> new Calls(services, body).reference(reference));
-            } else if (services.program().find(services.attribution().type(bare)) != null && isTaken(at, k)) {
+            } else if (services.program().find(services.attribution().type(bare)) != null) {
                 part = body.collect(() -> new Comparisons(services, body).comparator(bare, at));
-            } else if (isFunction(bare) && !isLookedAt(at)) {
+            } else if (isFunction(bare)) {
                 part = services.step("a function that isn't known", true, bare);
-                services.tell(atomic.java.places.Notes.Kind.APPROXIMATED, body, bare,
+                services.tell(Notes.Kind.APPROXIMATED, body, bare,
                     "unknown call: a function that isn't known may do anything");
             }
+            Part further = body.collect(() -> new Pipelines(services, body).givenBy(bare));
+            part = Part.sequence(List.of(part, further));
             if (!part.isNothing()) {
                 body.emit(new Part.Repeat(part, services.attribution().place(at)));
             }
         }
-    }
-
-    /** Whether a callee takes an argument as more than any object, such as those of {@code Thread.holdsLock} are. */
-    private boolean isTaken(Tree at, int k) {
-        if (!(services.attribution().element(at) instanceof javax.lang.model.element.ExecutableElement symbol)
-                || symbol.isVarArgs() || k >= symbol.getParameters().size()) {
-            return true;
-        }
-        var type = services.attribution().types().erasure(symbol.getParameters().get(k).asType());
-        return !type.toString().equals("java.lang.Object");
-    }
-
-    /** Whether a call only looks at a function's object: {@code Objects.requireNonNull} does. */
-    private boolean isLookedAt(Tree at) {
-        return at instanceof com.sun.source.tree.MethodInvocationTree call
-            && services.attribution().element(call) instanceof javax.lang.model.element.ExecutableElement symbol
-            && !services.ownership().escape().choose(call.getMethodSelect(), symbol).calls();
     }
 
     /** Whether an argument is an object with a function, which the call then calls; comparators are told as assumed. */

@@ -10,6 +10,8 @@ import com.sun.source.tree.EnhancedForLoopTree;
 import com.sun.source.tree.Tree;
 import com.sun.source.tree.VariableTree;
 import java.util.List;
+import javax.lang.model.element.TypeElement;
+import javax.lang.model.type.DeclaredType;
 import javax.lang.model.type.TypeKind;
 import javax.lang.model.type.TypeMirror;
 
@@ -43,6 +45,18 @@ final class Iteration {
             body.emit(services.doubt(Method.Doubt.OPEN, "Iterator.next", true, body, tree.getExpression(),
                 "compound library call: walking over this object counts as several steps"));
         }
+    }
+
+    /** What is walked to: a map's entry shows a part of its map. */
+    Value element(VariableTree variable, Value source) {
+        return source instanceof Value.Owned && isEntry(services.attribution().element(variable).asType()) ? source
+            : Value.OPAQUE;
+    }
+
+    /** Whether a type is that of a map's entries. */
+    static boolean isEntry(TypeMirror type) {
+        return type instanceof DeclaredType declared && ((TypeElement) declared.asElement()).getQualifiedName()
+            .contentEquals("java.util.Map.Entry");
     }
 
     /** The call that closes a resource. */

@@ -48,6 +48,12 @@ final class LibraryCalls {
         if (isStatic && services.program().find(symbol.getEnclosingElement()) != null) {
             new Initialisers(services).start(services.program().find(symbol.getEnclosingElement()), body, tree);
         }
+        ExpressionTree function = before == null ? null : services.ownership().localFunctions().named(before);
+        if (function != null) {
+            tree.getArguments().forEach(expressions::value);
+            services.functions().inline(function, body);
+            return Value.OPAQUE;
+        }
         Value object = isStatic ? Value.OPAQUE : before == null ? own(symbol, tree) : expressions.value(before);
         if (new Waits(services, body).isWait(tree, symbol, before)) {
             tree.getArguments().forEach(expressions::value);
@@ -62,8 +68,9 @@ final class LibraryCalls {
         List<Value> values = values(tree.getArguments(), choice);
         Called called = new Called(shown(symbol, before, isStatic), object, choice, tree, tree.getArguments());
         new Arguments(services, body).lookAt(called, values);
-        if (choice.kind() == Choice.Kind.RUN) {
-            pipeline(called, before);
+        if (choice.kind() == Choice.Kind.RUN || choice.kind() == Choice.Kind.VIEW && before != null
+                && new Pipelines(services, body).isStream(services.attribution().type(before))) {
+            new Pipelines(services, body).run(called, before);
         } else {
             steps(called);
         }
@@ -89,6 +96,9 @@ final class LibraryCalls {
     }
 
     private Choice choose(ExpressionTree before, ExecutableElement symbol, boolean isStatic) {
+        if (services.ownership().escape().isAccessor(symbol)) {
+            return Choice.ACCESSOR;
+        }
         String name = Library.key(symbol);
         if (isStatic || before == null) {
             JavaClass heir = body.heir(symbol.getEnclosingElement());
@@ -148,7 +158,7 @@ final class LibraryCalls {
             default -> unknown(called);
         }
         if (choice.runsFunctions()) {
-            services.functions().callAll(called.arguments(), body, called.at());
+            body.over(called.object(), () -> services.functions().callAll(called.arguments(), body, called.at()));
         }
     }
 
@@ -213,25 +223,6 @@ final class LibraryCalls {
         }
     }
 
-    /** A pipeline that is run: it walks over what it began with, and calls its functions any number of times. */
-    private void pipeline(Called called, ExpressionTree before) {
-        Part part = body.collect(() -> {
-            new Contents(services, body).call(called.object(), false, called.at(), called.shown());
-            functions(before);
-            services.functions().callAll(called.arguments(), body, called.at());
-        });
-        body.emit(new Part.Repeat(part, services.attribution().name(called.at())));
-    }
-
-    private void functions(ExpressionTree tree) {
-        if (tree instanceof MethodInvocationTree stage && stage.getMethodSelect() instanceof MemberSelectTree select
-                && services.attribution().element(stage) instanceof ExecutableElement symbol
-                && services.ownership().escape().choose(select, symbol).kind() == Choice.Kind.PIPE) {
-            functions(select.getExpression());
-            services.functions().callAll(stage.getArguments(), body, stage);
-        }
-    }
-
     private Value result(Called called, List<Value> values, boolean isStatic) {
         Choice choice = called.choice();
         if (choice.makes() != null) {
@@ -286,7 +277,8 @@ final class LibraryCalls {
             return;
         }
         boolean isStatic = symbol.getModifiers().contains(Modifier.STATIC);
-        Value object = isType ? Value.OPAQUE : expressions.value(tree.getQualifierExpression());
+        boolean entry = isType && Iteration.isEntry(symbol.getEnclosingElement().asType());
+        Value object = entry ? body.element() : isType ? Value.OPAQUE : expressions.value(tree.getQualifierExpression());
         Choice choice = choose(tree.getQualifierExpression(), symbol, isStatic);
         steps(new Called(shown(symbol, isStatic ? null : tree.getQualifierExpression(), isStatic), object, choice, tree,
             List.of()));

@@ -214,16 +214,11 @@ final class Rechecks {
         var all = services.uses().assignments(field).stream().filter(each -> !(each.tree() instanceof VariableTree
             && (each.value() == null || each.value().getKind() == Tree.Kind.NULL_LITERAL))).toList();
         return all.size() == 1 && direct.contains(all.get(0).tree()) && all.get(0).value() != null
-            && isMade(Uses.bare(all.get(0).value())) && all.get(0).target() instanceof ExpressionTree target
+            && new NewValues(services).isMade(all.get(0).value()) && all.get(0).target() instanceof ExpressionTree target
             && new Tests(services).isOwn(target);
     }
 
     private static boolean isStatic(First first) {
         return first.test().variable().getModifiers().contains(Modifier.STATIC);
-    }
-
-    private static boolean isMade(ExpressionTree value) {
-        return value instanceof NewClassTree || value instanceof NewArrayTree || value instanceof LambdaExpressionTree
-            || value instanceof LiteralTree literal && literal.getKind() != Tree.Kind.NULL_LITERAL;
     }
 }

@@ -100,7 +100,8 @@ final class Retries {
         return statement instanceof BlockTree block ? new ArrayList<>(block.getStatements()) : List.of(statement);
     }
 
-    private static boolean isTrue(ExpressionTree condition) {
+    /** Whether a condition always holds. */
+    static boolean isTrue(ExpressionTree condition) {
         return condition == null || Uses.bare(condition) instanceof LiteralTree literal
             && Boolean.TRUE.equals(literal.getValue());
     }

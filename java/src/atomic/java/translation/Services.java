@@ -28,6 +28,7 @@ final class Services {
     private final Fields fields;
     private final Methods methods;
     private final Functions functions;
+    private final Computing computing;
     private final Map<String, Method> helpers = new HashMap<>();
     private final Field state;
 
@@ -41,6 +42,7 @@ final class Services {
         families = new Families(program);
         fields = new Fields(program, families, uses, ownership, nodes);
         functions = new Functions(this);
+        computing = new Computing(this);
         state = new Field(program.helpers(), program.names().invent("state", "a step"), null, false);
         state.leaveUnguarded();
         program.helpers().fields().add(state);
@@ -76,6 +78,10 @@ final class Services {
 
     Functions functions() {
         return functions;
+    }
+
+    Computing computing() {
+        return computing;
     }
 
     Methods methods() {

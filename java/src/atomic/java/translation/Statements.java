@@ -24,6 +24,7 @@ import com.sun.source.tree.VariableTree;
 import com.sun.source.tree.WhileLoopTree;
 import com.sun.source.tree.YieldTree;
 import com.sun.source.util.SimpleTreeVisitor;
+import java.util.ArrayList;
 import java.util.List;
 import java.util.Set;
 import javax.lang.model.element.VariableElement;
@@ -86,6 +87,11 @@ final class Statements extends SimpleTreeVisitor<Void, Void> {
         return body.collect(() -> one(statement));
     }
 
+    /** A branch, unless it leaves a loop: then it is done behind that one. */
+    private Part branch(StatementTree statement) {
+        return body.leavings().take(statement, part(statement));
+    }
+
     /** An {@code if} of which one branch can't go on: the rest belongs to the other one. */
     private boolean branches(IfTree tree, List<? extends StatementTree> rest) {
         ExpressionTree tried = regions.tried(tree);
@@ -99,11 +105,11 @@ final class Statements extends SimpleTreeVisitor<Void, Void> {
         }
         expressions.value(tree.getCondition());
         Part left = body.collect(() -> {
-            one(tree.getThenStatement());
+            body.emit(branch(tree.getThenStatement()));
             all(thenEnds ? List.of() : rest);
         });
         Part right = body.collect(() -> {
-            one(tree.getElseStatement());
+            body.emit(branch(tree.getElseStatement()));
             all(elseEnds || !thenEnds ? List.of() : rest);
         });
         body.emit(new Part.Either(left, right));
@@ -115,8 +121,8 @@ final class Statements extends SimpleTreeVisitor<Void, Void> {
         ExpressionTree tried = regions.tried(tree);
         if (tried == null || !regions.attempt(tree, tried, List.of())) {
             expressions.value(tree.getCondition());
-            Part left = part(tree.getThenStatement());
-            body.emit(new Part.Either(left, part(tree.getElseStatement())));
+            Part left = branch(tree.getThenStatement());
+            body.emit(new Part.Either(left, branch(tree.getElseStatement())));
         }
         return null;
     }
@@ -177,10 +183,10 @@ final class Statements extends SimpleTreeVisitor<Void, Void> {
     @Override
     public Void visitWhileLoop(WhileLoopTree tree, Void nothing) {
         if (!new Retries(services, body, this).write(tree)) {
-            repeat(tree, body.collect(() -> {
+            repeat(tree, () -> {
                 expressions.value(tree.getCondition());
                 one(tree.getStatement());
-            }));
+            });
         }
         return null;
     }
@@ -188,10 +194,10 @@ final class Statements extends SimpleTreeVisitor<Void, Void> {
     @Override
     public Void visitDoWhileLoop(DoWhileLoopTree tree, Void nothing) {
         if (!new Retries(services, body, this).write(tree)) {
-            repeat(tree, body.collect(() -> {
+            repeat(tree, () -> {
                 one(tree.getStatement());
                 expressions.value(tree.getCondition());
-            }));
+            });
         }
         return null;
     }
@@ -200,11 +206,11 @@ final class Statements extends SimpleTreeVisitor<Void, Void> {
     public Void visitForLoop(ForLoopTree tree, Void nothing) {
         all(tree.getInitializer());
         if (!new Retries(services, body, this).write(tree)) {
-            repeat(tree, body.collect(() -> {
+            repeat(tree, () -> {
                 expressions.value(tree.getCondition());
                 one(tree.getStatement());
                 all(tree.getUpdate());
-            }));
+            });
         }
         return null;
     }
@@ -212,21 +218,30 @@ final class Statements extends SimpleTreeVisitor<Void, Void> {
     @Override
     public Void visitEnhancedForLoop(EnhancedForLoopTree tree, Void nothing) {
         Value source = expressions.value(tree.getExpression());
-        repeat(tree, body.collect(() -> {
+        repeat(tree, () -> {
             Iteration iteration = new Iteration(services, body);
             iteration.next(tree, source);
-            new Locals(services, body).declare(tree.getVariable(), Value.OPAQUE);
+            new Locals(services, body).declare(tree.getVariable(), iteration.element(tree.getVariable(), source));
             one(tree.getStatement());
-        }));
+        });
         return null;
     }
 
-    /** A loop, unless its body is left at its end the first time. */
-    private void repeat(StatementTree tree, Part part) {
+    /** A loop, unless its body is left at its end the first time; and then a branch that leaves it. */
+    private void repeat(StatementTree tree, Runnable turn) {
         StatementTree inner = tree instanceof WhileLoopTree loop ? loop.getStatement() : null;
         boolean once = inner != null && Jumps.leaves(inner);
+        List<Part> last = new ArrayList<>();
+        Part part = body.collect(() -> body.leavings().within(tree, last, turn));
+        if (!Leavings.areApart(part, last)) {
+            last.clear();
+            part = body.collect(turn);
+        }
         body.emit(once ? new Part.Either(part, Part.NOTHING)
             : new Part.Repeat(part, services.attribution().place(tree)));
+        if (!last.isEmpty()) {
+            body.emit(new Part.Either(Dispatch.either(last), Part.NOTHING));
+        }
     }
 
     @Override

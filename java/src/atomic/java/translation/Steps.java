@@ -5,7 +5,7 @@ import atomic.java.skeleton.Part;
 import java.util.ArrayList;
 import java.util.List;
 
-/** What others can see of a part: neither a second name for an object, nor a new one that only keeps values. */
+/** What others can see of a part: neither a second name for an object, nor a new one that only keeps values, nor what only computes. */
 record Steps(Services services) {
 
     /** The steps and regions of a part, in the order in which they are written. */
@@ -25,6 +25,6 @@ record Steps(Services services) {
 
     private boolean isMaking(Part.Call call) {
         JavaMethod method = services.methods().judged().get(call.target());
-        return method != null && method.isConstructor();
+        return method != null && (method.isConstructor() || services.computing().only(method));
     }
 }

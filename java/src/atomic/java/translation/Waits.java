@@ -30,7 +30,7 @@ final class Waits {
             return false;
         }
         Path lock = object ? lockOf(tree, before) : lockOfCondition(before);
-        body.emit(new Part.Wait(lock, false, services.attribution().name(tree)));
+        body.emit(new Part.Wait(lock, new WaitTurns(services).kept(tree), services.attribution().name(tree)));
         return true;
     }
 

@@ -1,0 +1,98 @@
+package atomic.java.translation;
+
+import atomic.java.skeleton.Part;
+import atomic.java.skeleton.Path;
+import atomic.java.skeleton.Value;
+import com.sun.source.tree.BlockTree;
+import com.sun.source.tree.IfTree;
+import com.sun.source.tree.LabeledStatementTree;
+import com.sun.source.tree.StatementTree;
+import com.sun.source.tree.Tree;
+import java.util.HashMap;
+import java.util.HashSet;
+import java.util.List;
+import java.util.Map;
+import java.util.Set;
+import java.util.stream.Stream;
+
+/**
+ * Branches that leave a loop: what {@code if (found) { count--; return; }} does is done once, behind the turns, and not each
+ * time round. Only a branch is taken out that surely leaves, and that stands in no region or {@code try} within the loop.
+ */
+final class Leavings {
+    private final Services services;
+    private final Map<Tree, List<Part>> open = new HashMap<>();
+
+    Leavings(Services services) {
+        this.services = services;
+    }
+
+    /** Writes a turn of a loop, and puts the branches that leave it elsewhere. */
+    void within(StatementTree loop, List<Part> last, Runnable turn) {
+        open.put(loop, last);
+        try {
+            turn.run();
+        } finally {
+            open.remove(loop);
+        }
+    }
+
+    /** What stands in place of a branch: nothing, where it leaves a loop. */
+    Part take(StatementTree branch, Part part) {
+        if (branch == null || part.isNothing() || !Jumps.leaves(branch)) {
+            return part;
+        }
+        Tree each = services.attribution().parent(branch);
+        while (each instanceof BlockTree || each instanceof IfTree || each instanceof LabeledStatementTree) {
+            each = services.attribution().parent(each);
+        }
+        List<Part> last = open.get(each);
+        if (last == null) {
+            return part;
+        }
+        last.add(part);
+        return Part.NOTHING;
+    }
+
+    /** Whether what is done behind a loop names no local of a turn. */
+    static boolean areApart(Part turn, List<Part> last) {
+        Set<Path.Root> declared = new HashSet<>();
+        declared(turn, declared);
+        return last.stream().noneMatch(each -> names(each, declared));
+    }
+
+    private static void declared(Part part, Set<Path.Root> found) {
+        if (part instanceof Part.Local local) {
+            found.add(local.variable());
+        }
+        part.parts().forEach(each -> declared(each, found));
+    }
+
+    private static boolean names(Part part, Set<Path.Root> declared) {
+        Stream<Path> paths = Stream.of();
+        if (part instanceof Part.Access access) {
+            paths = paths(access.receiver());
+        } else if (part instanceof Part.Call call) {
+            paths = Stream.concat(Stream.of(call.receiver()), call.arguments().stream()).flatMap(Leavings::paths);
+        } else if (part instanceof Part.Region region && region.lock() != null) {
+            paths = Stream.of(region.lock());
+        } else if (part instanceof Part.Local local && local.value() != null) {
+            paths = Stream.of(local.value());
+        } else if (part instanceof Part.Wait wait && wait.lock() != null) {
+            paths = Stream.of(wait.lock());
+        }
+        return paths.anyMatch(each -> declared.contains(each.root()))
+            || part.parts().stream().anyMatch(each -> names(each, declared));
+    }
+
+    private static Stream<Path> paths(Value value) {
+        if (value instanceof Value.Through through) {
+            return paths(through.receiver());
+        } else if (value instanceof Value.Owned owned) {
+            return Stream.concat(Stream.ofNullable(owned.own()), paths(owned.receiver()));
+        } else if (value instanceof Value.Node node) {
+            return paths(node.container());
+        }
+        return value == null ? Stream.of() : Stream.ofNullable(value.path());
+    }
+}
