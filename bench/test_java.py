@@ -3,7 +3,8 @@
 
 adversaries  methods that look atomic and aren't (java/tests/adversaries): each is refused, and each right twin is
              accepted
-users        classes as people bring them (java/tests/users): the verdicts that an expert wrote down before
+users        classes as people bring them (java/tests/users): the verdicts that an expert wrote down before; a wrong
+             alarm is told as one that may be wrong
 larger       accepted sources of ordinary style (java/tests/larger)
 mutants      these, each time without one lock, guard or @Holding: each is told, or its line says why that is harmless
 summaries    sources whose first line has the line of figures that comes (java/tests/summaries)
@@ -24,6 +25,7 @@ from java_sources import PROGRAM, TOP, Answer, Line, batches, marks, run, write_
 TESTS = TOP / "java" / "tests"
 OPTIONS = re.compile(r"^// judged with: (.*)$", re.MULTILINE)
 RACE = "data race"
+DOUBT = "this may be a wrong alarm"
 
 
 @dataclass
@@ -91,6 +93,14 @@ class Tester:
             options = OPTIONS.search(text)
             answer = self.judged(options[1].split() if options else [], [path])
             self.marked(path.name, text, path, answer, whole=True)
+            self.alarms(path, text, answer)
+
+    def alarms(self, path: Path, text: str, answer: Answer) -> None:
+        """Each wrong alarm says that it may be one."""
+        doubted = {line.line for line in answer.lines if line.text.startswith(DOUBT)}
+        for number, (_, reason) in marks(text).items():
+            if reason.startswith("alarm") and number not in doubted:
+                self.tell(f"{path.name}:{number}: a wrong alarm is told as certain: {reason}")
 
     def larger(self) -> None:
         """The larger sources as they are."""
