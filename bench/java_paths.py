@@ -6,7 +6,7 @@ isn't always logged.
 """
 import re
 from collections.abc import Callable
-from dataclasses import dataclass
+from dataclasses import dataclass, replace
 from pathlib import Path
 
 from java_logs import ACCESSES, Event, Sharing
@@ -26,11 +26,13 @@ class Part:
 
 @dataclass(frozen=True)
 class Method:
-    """A method of a skeleton: the place of its name in the Java source, its name, and its body."""
+    """A method of a skeleton: the place of its name in the Java source, its name, its body, and whether that is written
+    where it is called."""
 
     place: str
     name: str
     body: Part
+    helper: bool = False
 
 
 def part_of(tokens: list[str]) -> Part:
@@ -49,13 +51,15 @@ def part_of(tokens: list[str]) -> Part:
 
 def skeleton_of(path: Path) -> list[Method]:
     """The methods of a skeleton."""
-    methods = []
+    methods, helpers = [], set()
     for line in path.read_text(encoding="utf-8").splitlines():
         head, _, body = line.partition("\t")
         word, place, name = head.split(" ")
         if word == "method":
             methods.append(Method(place, name, part_of(TOKEN.findall(body)[::-1])))
-    return methods
+        elif word == "helper":
+            helpers.add(place)
+    return [replace(each, helper=each.place in helpers) for each in methods]
 
 
 def repeats_of(path: Path) -> dict[str, str]:
@@ -181,9 +185,24 @@ def without_idle_calls(events: list[Event]) -> list[Event]:
     return kept
 
 
+def without_helpers(events: list[Event], helpers: set[str]) -> list[Event]:
+    """The events without the marks around helpers, whose steps stand where they are called."""
+    kept: list[Event] = []
+    entered: list[bool] = []
+    for event in events:
+        if event.action in ("begin", "enter"):
+            entered.append(event.action == "enter" and event.target.rpartition("@")[2] in helpers)
+            if not entered[-1]:
+                kept.append(event)
+        elif event.action not in ("end", "leave") or not entered or not entered.pop():
+            kept.append(event)
+    return kept
+
+
 def unseen(methods: list[Method], events: list[Event], sharing: Sharing, place: str) -> Event | None:
     """The first event of a block that isn't on any path of the method at a place; none where all are."""
     steps = [event for event in events if event.action not in ACCESSES or sharing.is_seen(event)]
+    steps = without_helpers(steps, {each.place for each in methods if each.helper})
     steps = [event for event in steps if event.action not in ("start", "join", "failed", "stopped")]
     if steps and steps[-1].action in ("end", "leave"):
         steps.pop()

@@ -47,7 +47,7 @@ public final class Run {
         Methods methods = skeleton(program);
         if (options.log() != null) {
             new Copies(attribution, program.library(), tree -> methods.promises(program.method(attribution.element(tree))))
-                .write(options.log(), all(program), methods.repeats());
+                .write(options.log(), all(program), methods.repeats(), methods.helpers());
         }
         if (options.explain() != null) {
             return explain(program, methods, answer);

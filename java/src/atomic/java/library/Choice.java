@@ -5,12 +5,13 @@ package atomic.java.library;
  *
  * @param kind its steps
  * @param calls whether it calls the functions among its arguments before it returns
+ * @param once whether it calls each of them at most once
  * @param fills whether it writes into the objects among its arguments
  * @param keeps whether it keeps what it is given, so that others may reach it from then on
  * @param elsewhere whether the functions that it is given run in another thread, which is told
  * @param makes the class of the new object that it gives, or null
  */
-public record Choice(Kind kind, boolean calls, boolean fills, boolean keeps, boolean elsewhere, String makes) {
+public record Choice(Kind kind, boolean calls, boolean once, boolean fills, boolean keeps, boolean elsewhere, String makes) {
 
     /** The steps of a call. */
     public enum Kind {
@@ -45,18 +46,19 @@ public record Choice(Kind kind, boolean calls, boolean fills, boolean keeps, boo
     }
 
     /** A method that no row speaks of. */
-    public static final Choice UNKNOWN = new Choice(Kind.UNKNOWN, false, false, true, false, null);
+    public static final Choice UNKNOWN = new Choice(Kind.UNKNOWN, false, false, false, true, false, null);
 
     /** What gives a part of a record. */
-    public static final Choice ACCESSOR = new Choice(Kind.PURE, false, false, false, false, null);
+    public static final Choice ACCESSOR = new Choice(Kind.PURE, false, false, false, false, false, null);
 
     /** The making of an object of a class that no row speaks of, which keeps what it is made of and does nothing else. */
-    static final Choice MADE = new Choice(Kind.PURE, false, false, true, false, null);
+    static final Choice MADE = new Choice(Kind.PURE, false, false, false, true, false, null);
 
     /** The choice that a word of the table spells: a kind, and flags behind plus signs. */
     static Choice of(String word) {
         String[] words = word.split("\\+");
         boolean calls = false;
+        boolean once = false;
         boolean fills = false;
         boolean keeps = false;
         boolean elsewhere = false;
@@ -64,6 +66,7 @@ public record Choice(Kind kind, boolean calls, boolean fills, boolean keeps, boo
         for (int k = 1; k < words.length; k++) {
             switch (words[k]) {
                 case "calls" -> calls = true;
+                case "once" -> once = true;
                 case "fills" -> fills = true;
                 case "keeps" -> keeps = true;
                 case "elsewhere" -> elsewhere = true;
@@ -75,6 +78,7 @@ public record Choice(Kind kind, boolean calls, boolean fills, boolean keeps, boo
                 }
             }
         }
-        return new Choice(Kind.valueOf(words[0].toUpperCase(java.util.Locale.ROOT)), calls, fills, keeps, elsewhere, makes);
+        return new Choice(Kind.valueOf(words[0].toUpperCase(java.util.Locale.ROOT)), calls || once, once, fills, keeps,
+            elsewhere, makes);
     }
 }

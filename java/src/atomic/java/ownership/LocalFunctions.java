@@ -62,6 +62,13 @@ public final class LocalFunctions {
             && known.computeIfAbsent(local, key -> Optional.ofNullable(find(local))).orElse(null) == function;
     }
 
+    /** Whether a method does nothing with the function in a parameter but to call it. */
+    public boolean isOnlyCalled(VariableElement parameter) {
+        VariableTree declaration = uses.declaration(parameter);
+        return declaration != null && uses.isSettled(parameter) && isPlain(parameter)
+            && uses.of(parameter).stream().allMatch(use -> isCall(use) && isWithin(use, declaration));
+    }
+
     private ExpressionTree find(VariableElement local) {
         VariableTree declaration = uses.declaration(local);
         ExpressionTree value = declaration == null || declaration.getInitializer() == null ? null

@@ -145,12 +145,12 @@ final class NodeCalls {
             && ownership.owns(variable);
     }
 
-    /** Whether a method that a name stands for is one of this container, or of the nodes that it is given. */
+    /** Whether a method that a name stands for is one of this container, or takes and gives no nodes. */
     boolean isOwn(MemberReferenceTree reference, JavaMethod method) {
         ExpressionTree qualifier = Uses.bare(reference.getQualifierExpression());
         boolean self = qualifier instanceof IdentifierTree name && name.getName().contentEquals("this")
             || qualifier instanceof MemberSelectTree select && select.getIdentifier().contentEquals("this");
-        return self || method.owner() == types.node() || !types.inSignature(method.symbol());
+        return self || !types.inSignature(method.symbol());
     }
 
     /** The innermost tree of a kind around a tree, or null. */

@@ -28,12 +28,16 @@ import com.sun.source.tree.VariableTree;
 import com.sun.source.tree.YieldTree;
 import com.sun.source.util.TreeScanner;
 import java.util.HashMap;
+import java.util.LinkedHashSet;
 import java.util.List;
 import java.util.Map;
+import java.util.Set;
+import java.util.stream.Stream;
 import javax.lang.model.element.Element;
 import javax.lang.model.element.ElementKind;
 import javax.lang.model.element.ExecutableElement;
 import javax.lang.model.element.Modifier;
+import javax.lang.model.element.NestingKind;
 import javax.lang.model.element.VariableElement;
 
 /**
@@ -58,29 +62,57 @@ public final class Nodes {
 
     /** The container of a class of nodes, or null. */
     public JavaClass container(JavaClass each) {
-        return each != null && known.computeIfAbsent(each, this::isNode) ? each.outer() : null;
+        if (each == null || each.outer() == null) {
+            return null;
+        } else if (!known.containsKey(each)) {
+            find(each.outer());
+        }
+        return known.getOrDefault(each, false) ? each.outer() : null;
     }
 
-    private boolean isNode(JavaClass each) {
-        JavaClass outer = each.outer();
-        boolean hidden = each.symbol().getKind() == ElementKind.CLASS && outer != null && !outer.isInterface()
-            && each.symbol().getNestingKind() == javax.lang.model.element.NestingKind.MEMBER
+    /** Finds the classes of nodes in a container. Each may hold the others, so what one of them lets out counts for all. */
+    private void find(JavaClass outer) {
+        Set<JavaClass> nodes = new LinkedHashSet<>();
+        for (JavaClass each : program.classes()) {
+            if (each.outer() == outer) {
+                known.put(each, false);
+                if (isPlain(each)) {
+                    nodes.add(each);
+                }
+            }
+        }
+        while (nodes.removeIf(each -> !isNode(each, nodes))) {
+            // What is left is looked at again, without those that are none.
+        }
+        nodes.forEach(each -> {
+            known.put(each, true);
+            if (!each.symbol().getModifiers().contains(Modifier.PRIVATE)) {
+                program.notes().tell(Notes.Kind.ASSUMED, null, attribution.name(each.tree()), "no code outside these files"
+                    + " reaches these nodes, which count as parts of " + outer.symbol().getSimpleName());
+            }
+        });
+    }
+
+    /** Whether a class may be one of nodes: it is hidden in another one, and has no class above it, no lock and no statics. */
+    private static boolean isPlain(JavaClass each) {
+        boolean hidden = each.symbol().getKind() == ElementKind.CLASS && !each.outer().isInterface()
+            && each.symbol().getNestingKind() == NestingKind.MEMBER
             && !each.symbol().getModifiers().contains(Modifier.PUBLIC)
             && !each.symbol().getModifiers().contains(Modifier.PROTECTED);
-        boolean plain = each.symbol().getSuperclass().toString().equals("java.lang.Object")
+        return hidden && each.symbol().getSuperclass().toString().equals("java.lang.Object")
             && each.symbol().getInterfaces().isEmpty() && each.methods().stream().noneMatch(method ->
                 method.symbol().getModifiers().contains(Modifier.SYNCHRONIZED) || method.isStatic());
-        if (!hidden || !plain) {
-            return false;
-        }
+    }
+
+    /** Whether objects of a class stay in the container, where those of these classes do. */
+    private boolean isNode(JavaClass each, Set<JavaClass> nodes) {
         NodeTypes types = new NodeTypes(attribution, each);
-        boolean linked = outer.symbol().getEnclosedElements().stream().anyMatch(field ->
-            field.getKind() == ElementKind.FIELD && types.mentions(field.asType()));
-        Test test = new Test(outer, types);
-        mentions.units(each.symbol(), outer.symbol()).forEach(unit -> test.scan(unit, null));
-        if (linked && test.holds && !each.symbol().getModifiers().contains(Modifier.PRIVATE)) {
-            program.notes().tell(Notes.Kind.ASSUMED, null, attribution.name(each.tree()), "no code outside these files"
-                + " reaches these nodes, which count as parts of " + outer.symbol().getSimpleName());
+        boolean linked = Stream.concat(Stream.of(each.outer()), nodes.stream().filter(other -> other != each)).anyMatch(holder ->
+            holder.symbol().getEnclosedElements().stream().anyMatch(field ->
+                field.getKind() == ElementKind.FIELD && types.mentions(field.asType())));
+        Test test = new Test(types, nodes);
+        if (linked) {
+            mentions.units(each.symbol(), each.outer().symbol()).forEach(unit -> test.scan(unit, null));
         }
         return linked && test.holds;
     }
@@ -89,15 +121,17 @@ public final class Nodes {
     private final class Test extends TreeScanner<Void, Void> {
         private final JavaClass node;
         private final JavaClass outer;
+        private final Set<JavaClass> nodes;
         private final NodeTypes types;
         private final NodeCalls calls;
         private JavaClass current;
         private boolean inStatic;
         private boolean holds = true;
 
-        Test(JavaClass outer, NodeTypes types) {
+        Test(NodeTypes types, Set<JavaClass> nodes) {
             node = types.node();
-            this.outer = outer;
+            outer = node.outer();
+            this.nodes = nodes;
             this.types = types;
             calls = new NodeCalls(program, ownership, types);
         }
@@ -128,14 +162,18 @@ public final class Nodes {
         public Void visitVariable(VariableTree tree, Void nothing) {
             Element symbol = attribution.element(tree);
             if (symbol != null && symbol.getKind() == ElementKind.FIELD && types.mentions(symbol.asType())) {
-                boolean inside = current == node || current == outer || current != null && hasContainer(current);
-                need(inside && !symbol.getModifiers().contains(Modifier.STATIC)
+                need(isInside(current) && !symbol.getModifiers().contains(Modifier.STATIC)
                     && !symbol.getModifiers().contains(Modifier.PUBLIC));
             }
             if (tree.getInitializer() != null && isNodes(tree.getInitializer())) {
                 need(symbol != null && types.mentions(symbol.asType()));
             }
             return super.visitVariable(tree, nothing);
+        }
+
+        /** Whether code of a class has one container, and no nodes of another one. */
+        private boolean isInside(JavaClass each) {
+            return each != null && (each == outer || nodes.contains(each) || hasContainer(each));
         }
 
         private boolean hasContainer(JavaClass each) {
@@ -150,7 +188,7 @@ public final class Nodes {
         public Void scan(Tree tree, Void nothing) {
             if (tree instanceof ExpressionTree expression && isNodes(expression)
                     && attribution.element(tree) != node.symbol()) {
-                need(!inStatic && (current == node || current == outer || current != null && hasContainer(current)));
+                need(!inStatic && isInside(current));
             }
             return holds ? super.scan(tree, nothing) : null;
         }
@@ -160,8 +198,8 @@ public final class Nodes {
             Element symbol = attribution.element(tree);
             boolean leads = symbol instanceof VariableElement field && types.mentions(field.asType())
                 || symbol instanceof ExecutableElement method && types.inSignature(method);
-            if (leads && !symbol.getEnclosingElement().equals(node.symbol())
-                    && program.find(symbol.getEnclosingElement()) != null) {
+            JavaClass home = leads ? program.find(symbol.getEnclosingElement()) : null;
+            if (home != null && !nodes.contains(home)) {
                 need(isSelf(tree.getExpression()));
             }
             return super.visitMemberSelect(tree, nothing);
@@ -205,7 +243,7 @@ public final class Nodes {
         /** Whether a method of the container, or of what belongs to one, says of each node that it is given that it is one. */
         private boolean takesNodes(JavaMethod method, List<? extends ExpressionTree> arguments) {
             List<? extends VariableElement> parameters = method.symbol().getParameters();
-            boolean own = method.owner() == outer || method.owner() == node || hasContainer(method.owner());
+            boolean own = isInside(method.owner());
             for (int k = 0; k < arguments.size(); k++) {
                 boolean given = isNodes(arguments.get(k)) && !(Uses.bare(arguments.get(k)) instanceof LambdaExpressionTree);
                 if (given && !(own && k < parameters.size() && types.mentions(parameters.get(k).asType()))) {
@@ -296,7 +334,8 @@ public final class Nodes {
             if (attribution.element(tree) instanceof ExecutableElement symbol) {
                 boolean makes = symbol.getKind() == ElementKind.CONSTRUCTOR && symbol.getEnclosingElement() == node.symbol();
                 need(!makes && !types.mentions(symbol.getReturnType()) || calls.mayGive(tree));
-                need(program.method(symbol) == null || calls.isOwn(tree, program.method(symbol)));
+                JavaMethod method = program.method(symbol);
+                need(method == null || nodes.contains(method.owner()) || calls.isOwn(tree, method));
             }
             return super.visitMemberReference(tree, nothing);
         }

@@ -45,13 +45,13 @@ public final class Copies {
         }.scan(unit, null));
     }
 
-    /** Writes them all, and the skeleton that was judged, with the looks that don't count where another place is next. */
-    public void write(String folder, List<Method> skeleton, Map<Place, Place> repeats) {
+    /** Writes them all, and the skeleton that was judged, with the looks that don't count where another place is next, and the helpers. */
+    public void write(String folder, List<Method> skeleton, Map<Place, Place> repeats, Set<Place> helpers) {
         try {
             for (CompilationUnitTree unit : attribution.units()) {
                 write(unit, Path.of(folder));
             }
-            Files.write(Path.of(folder, "skeleton.txt"), new SkeletonText(skeleton, repeats).lines());
+            Files.write(Path.of(folder, "skeleton.txt"), new SkeletonText(skeleton, repeats, helpers).lines());
         } catch (IOException | java.nio.file.InvalidPathException fault) {
             throw new Refusal(Options.CANNOT_WRITE, "cannot write into " + folder);
         }

@@ -6,20 +6,24 @@ import atomic.java.skeleton.Place;
 import java.util.ArrayList;
 import java.util.List;
 import java.util.Map;
+import java.util.Set;
 
 /**
  * A skeleton's methods as lines for those who compare logs with it: {@code method LINE:COLUMN NAME}, and behind it the body in
  * parentheses: {@code (seq ..)}, {@code (or A B)}, {@code (rep A)}, {@code (sync A)}, {@code (read LINE:COLUMN)},
  * {@code (write LINE:COLUMN)}, {@code (wait)} and {@code (call LINE:COLUMN TARGET)}, where TARGET is the number of a line, from 0 on.
- * Behind the methods stands {@code repeat LINE:COLUMN LINE:COLUMN} for each look that is no step where the second place is next.
+ * Behind the methods stands {@code repeat LINE:COLUMN LINE:COLUMN} for each look that is no step where the second place is next,
+ * and {@code helper LINE:COLUMN -} for each method whose body is written where it is called.
  */
 final class SkeletonText {
     private final List<Method> methods;
     private final Map<Place, Place> repeats;
+    private final Set<Place> helpers;
 
-    SkeletonText(List<Method> methods, Map<Place, Place> repeats) {
+    SkeletonText(List<Method> methods, Map<Place, Place> repeats, Set<Place> helpers) {
         this.methods = methods;
         this.repeats = repeats;
+        this.helpers = helpers;
     }
 
     List<String> lines() {
@@ -28,6 +32,7 @@ final class SkeletonText {
             lines.add("method " + place(method.place()) + " " + method.name() + "\t" + text(method.body()));
         }
         repeats.forEach((look, again) -> lines.add("repeat " + place(look) + " " + place(again)));
+        helpers.forEach(each -> lines.add("helper " + place(each) + " -"));
         return lines;
     }
 

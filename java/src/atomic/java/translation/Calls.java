@@ -45,6 +45,8 @@ final class Calls {
         JavaMethod method = services.program().method(symbol);
         if (method == null) {
             return new LibraryCalls(services, body).call(tree, executable);
+        } else if (new Helpers(services, body).write(tree, method)) {
+            return Value.OPAQUE;
         }
         Value receiver = method.isStatic() ? qualifier(tree) : receiver(tree, method);
         List<Value> arguments = arguments(method, tree.getArguments());

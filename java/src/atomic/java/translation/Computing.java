@@ -2,6 +2,7 @@ package atomic.java.translation;
 
 import atomic.java.library.Library;
 import atomic.java.ownership.Uses;
+import atomic.java.program.JavaClass;
 import atomic.java.program.JavaMethod;
 import com.sun.source.tree.ArrayAccessTree;
 import com.sun.source.tree.AssignmentTree;
@@ -71,6 +72,19 @@ final class Computing {
         if (method.isConstructor() && !Initialisers.callsAnother(method.tree())) {
             method.owner().tree().getMembers().stream().filter(Computing::isInitialiser)
                 .forEach(each -> scanner.scan(each, null));
+        }
+        return scanner.holds;
+    }
+
+    /** Whether the static initialisers of a class only compute. */
+    boolean only(JavaClass begun) {
+        Scanner scanner = new Scanner(null);
+        for (Tree member : begun.tree().getMembers()) {
+            boolean runs = member instanceof BlockTree block && block.isStatic() || member instanceof VariableTree field
+                && (field.getModifiers().getFlags().contains(Modifier.STATIC) || begun.isInterface());
+            if (runs) {
+                scanner.scan(member, null);
+            }
         }
         return scanner.holds;
     }
@@ -192,7 +206,7 @@ final class Computing {
             boolean own = bare instanceof IdentifierTree
                 || bare instanceof MemberSelectTree select && select.getExpression().toString().equals("this");
             holds &= own && symbol instanceof VariableElement variable && (!variable.getKind().isField()
-                || method.isConstructor() && variable.getEnclosingElement() == method.owner().symbol()
+                || method != null && method.isConstructor() && variable.getEnclosingElement() == method.owner().symbol()
                 && !variable.getModifiers().contains(Modifier.STATIC));
         }
 

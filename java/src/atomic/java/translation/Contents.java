@@ -1,5 +1,6 @@
 package atomic.java.translation;
 
+import atomic.java.ownership.Uses;
 import atomic.java.places.Notes;
 import atomic.java.skeleton.Method;
 import atomic.java.skeleton.Part;
@@ -9,7 +10,10 @@ import com.sun.source.tree.ArrayAccessTree;
 import com.sun.source.tree.ExpressionTree;
 import com.sun.source.tree.MemberSelectTree;
 import com.sun.source.tree.MethodInvocationTree;
+import com.sun.source.tree.NewClassTree;
 import com.sun.source.tree.Tree;
+import java.util.ArrayList;
+import java.util.List;
 import javax.lang.model.element.VariableElement;
 import javax.lang.model.type.TypeKind;
 
@@ -59,7 +63,22 @@ final class Contents {
             && services.ownership().isGivenHere(field);
         boolean array = at instanceof MethodInvocationTree call && (call.getArguments().stream().anyMatch(this::isArray)
             || call.getMethodSelect() instanceof MemberSelectTree select && isArray(select.getExpression()));
-        return own || array ? Method.Doubt.ANY : Method.Doubt.OPEN;
+        return own || array || isGivenHere(at) ? Method.Doubt.ANY : Method.Doubt.OPEN;
+    }
+
+    /** Whether a call is made on what a method of the sources gives, or is given that, which may be new. */
+    private boolean isGivenHere(Tree at) {
+        List<ExpressionTree> parts = new ArrayList<>();
+        if (at instanceof MethodInvocationTree call) {
+            parts.addAll(call.getArguments());
+            if (call.getMethodSelect() instanceof MemberSelectTree select) {
+                parts.add(select.getExpression());
+            }
+        } else if (at instanceof NewClassTree made) {
+            parts.addAll(made.getArguments());
+        }
+        return parts.stream().map(Uses::bare).anyMatch(each -> each instanceof MethodInvocationTree
+            && services.program().method(services.attribution().element(each)) != null);
     }
 
     private boolean isArray(ExpressionTree tree) {

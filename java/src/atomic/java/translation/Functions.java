@@ -3,6 +3,7 @@ package atomic.java.translation;
 import atomic.java.ownership.Uses;
 import atomic.java.places.Notes;
 import atomic.java.program.JavaClass;
+import atomic.java.program.JavaMethod;
 import atomic.java.skeleton.Field;
 import atomic.java.skeleton.Method;
 import atomic.java.skeleton.Part;
@@ -17,8 +18,10 @@ import com.sun.source.tree.Tree;
 import com.sun.source.tree.VariableTree;
 import java.util.ArrayList;
 import java.util.HashMap;
+import java.util.HashSet;
 import java.util.List;
 import java.util.Map;
+import java.util.Set;
 import javax.lang.model.element.VariableElement;
 
 /**
@@ -28,6 +31,8 @@ import javax.lang.model.element.VariableElement;
 final class Functions {
     private final Services services;
     private final Map<JavaClass, List<Method>> implementations = new HashMap<>();
+    private final Map<VariableElement, ExpressionTree> given = new HashMap<>();
+    private final Set<JavaMethod> helpers = new HashSet<>();
 
     Functions(Services services) {
         this.services = services;
@@ -48,6 +53,30 @@ final class Functions {
         } else {
             new Expressions(services, body).value((ExpressionTree) tree.getBody());
         }
+    }
+
+    /** The function that a name stands for: of a local that is only called, or of a helper's parameter. */
+    ExpressionTree named(ExpressionTree tree) {
+        ExpressionTree function = given.get(services.attribution().element(Uses.bare(tree)));
+        return function != null ? function : services.ownership().localFunctions().named(tree);
+    }
+
+    /** Writes a helper's body, whose parameters stand for these functions. */
+    void within(JavaMethod helper, Map<VariableElement, ExpressionTree> functions, Runnable work) {
+        helpers.add(helper);
+        services.methods().helper(helper.place());
+        given.putAll(functions);
+        try {
+            work.run();
+        } finally {
+            given.keySet().removeAll(functions.keySet());
+            helpers.remove(helper);
+        }
+    }
+
+    /** Whether this helper's body is being written. */
+    boolean isWithin(JavaMethod helper) {
+        return helpers.contains(helper);
     }
 
     /** Writes a function that is at hand where it is called. */
@@ -118,12 +147,12 @@ final class Functions {
     }
 
     /**
-     * Writes the functions among the arguments of a call that calls them, any number of times. What it takes as any object,
+     * Writes the functions among the arguments of a call that calls them, any number of times, or once at most. What it takes as any object,
      * as {@code Objects.requireNonNull} does, it doesn't call.
      */
-    void callAll(List<? extends ExpressionTree> arguments, Body body, Tree at) {
+    void callAll(List<? extends ExpressionTree> arguments, Body body, Tree at, boolean once) {
         for (int k = 0; k < arguments.size(); k++) {
-            ExpressionTree named = services.ownership().localFunctions().named(arguments.get(k));
+            ExpressionTree named = named(arguments.get(k));
             ExpressionTree bare = named != null ? named : Uses.bare(arguments.get(k));
             Part part = Part.NOTHING;
             if (!services.ownership().escape().isTaken(at, k)) {
@@ -142,7 +171,8 @@ final class Functions {
             Part further = body.collect(() -> new Pipelines(services, body).givenBy(bare));
             part = Part.sequence(List.of(part, further));
             if (!part.isNothing()) {
-                body.emit(new Part.Repeat(part, services.attribution().place(at)));
+                body.emit(once ? new Part.Either(part, Part.NOTHING)
+                    : new Part.Repeat(part, services.attribution().place(at)));
             }
         }
     }

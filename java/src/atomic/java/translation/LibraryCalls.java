@@ -48,7 +48,7 @@ final class LibraryCalls {
         if (isStatic && services.program().find(symbol.getEnclosingElement()) != null) {
             new Initialisers(services).start(services.program().find(symbol.getEnclosingElement()), body, tree);
         }
-        ExpressionTree function = before == null ? null : services.ownership().localFunctions().named(before);
+        ExpressionTree function = before == null ? null : services.functions().named(before);
         if (function != null) {
             tree.getArguments().forEach(expressions::value);
             services.functions().inline(function, body);
@@ -158,14 +158,15 @@ final class LibraryCalls {
             default -> unknown(called);
         }
         if (choice.runsFunctions()) {
-            body.over(called.object(), () -> services.functions().callAll(called.arguments(), body, called.at()));
+            body.over(called.object(), () -> services.functions().callAll(called.arguments(), body, called.at(),
+                choice.once()));
         }
     }
 
     /** Whether a call tries again by itself until nobody came in between, with a function that has no step. */
     private boolean isRetry(Called called) {
         return new Attempts(services).isRetry(called) && new Steps(services).of(body.collect(() ->
-            services.functions().callAll(called.arguments(), body, called.at()))).isEmpty();
+            services.functions().callAll(called.arguments(), body, called.at(), false))).isEmpty();
     }
 
     /** One step; a task that is handed over with it runs in another thread, unless a class at hand may run it here. */

@@ -22,6 +22,7 @@ import java.util.List;
 import java.util.Map;
 import java.util.Set;
 import java.util.TreeMap;
+import java.util.TreeSet;
 import javax.lang.model.element.Modifier;
 import javax.lang.model.element.VariableElement;
 
@@ -43,6 +44,7 @@ public final class Methods {
     private final Map<JavaClass, Method> initialisers = new HashMap<>();
     private final Set<Method> alone = new LinkedHashSet<>();
     private final Map<Place, Place> repeats = new TreeMap<>();
+    private final Set<Place> helpers = new TreeSet<>();
     private final Deque<Runnable> waiting = new ArrayDeque<>();
     private final Deque<Runnable> last = new ArrayDeque<>();
 
@@ -115,6 +117,16 @@ public final class Methods {
     /** The places of steps that don't count where another one follows, each with the place of that. */
     public Map<Place, Place> repeats() {
         return repeats;
+    }
+
+    /** A method whose body is written where it is called. */
+    void helper(Place method) {
+        helpers.add(method);
+    }
+
+    /** The places of such methods. */
+    public Set<Place> helpers() {
+        return helpers;
     }
 
     /** A function that is judged by itself. */

@@ -40,7 +40,7 @@ final class Pipelines {
             new Contents(services, body).call(called.object(), false, called.at(), called.shown());
             body.over(called.object(), () -> {
                 functions(before);
-                services.functions().callAll(called.arguments(), body, called.at());
+                services.functions().callAll(called.arguments(), body, called.at(), false);
             });
         });
         body.emit(new Part.Repeat(part, services.attribution().name(called.at())));
@@ -71,7 +71,7 @@ final class Pipelines {
             functions(select.getExpression());
         }
         stage.getArguments().forEach(this::functions);
-        services.functions().callAll(stage.getArguments(), body, stage);
+        services.functions().callAll(stage.getArguments(), body, stage, false);
     }
 
     /** The stages of a stream that a function gives, which run with those around it: such a one is that of {@code flatMap}. */

@@ -1,5 +1,6 @@
 package atomic.java.translation;
 
+import atomic.java.program.JavaClass;
 import atomic.java.program.JavaMethod;
 import atomic.java.skeleton.Part;
 import java.util.ArrayList;
@@ -25,6 +26,10 @@ record Steps(Services services) {
 
     private boolean isMaking(Part.Call call) {
         JavaMethod method = services.methods().judged().get(call.target());
+        if (services.methods().origin(call.target()) instanceof JavaClass begun
+                && services.methods().initialiser(begun) == call.target()) {
+            return services.computing().only(begun);
+        }
         return method != null && (method.isConstructor() || services.computing().only(method));
     }
 }

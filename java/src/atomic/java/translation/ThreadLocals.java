@@ -29,7 +29,7 @@ final class ThreadLocals {
         ExpressionTree value = services.uses().assignments(local).stream().map(Uses.Assignment::value)
             .filter(each -> each != null).findFirst().orElse(null);
         if (value instanceof MethodInvocationTree made && isWithInitial(made)) {
-            services.functions().callAll(made.getArguments(), body, at);
+            services.functions().callAll(made.getArguments(), body, at, false);
             return true;
         } else if (value instanceof NewClassTree made && made.getClassBody() != null && isThreadLocal(local)) {
             body.emit(services.step("ThreadLocal.initialValue", true, at));

@@ -10,6 +10,7 @@ import com.sun.source.tree.ExpressionStatementTree;
 import com.sun.source.tree.ExpressionTree;
 import com.sun.source.tree.ForLoopTree;
 import com.sun.source.tree.IdentifierTree;
+import com.sun.source.tree.IfTree;
 import com.sun.source.tree.LambdaExpressionTree;
 import com.sun.source.tree.MethodInvocationTree;
 import com.sun.source.tree.MethodTree;
@@ -57,7 +58,7 @@ record WaitTurns(Services services) {
         long behind = services.attribution().end(wait);
         return Stream.concat(turn.kept.stream().filter(each -> isUsedBehind(each, around)),
             turn.seen.stream().filter(each -> services.uses().of(each).stream().anyMatch(use ->
-                services.attribution().start(use) > behind))).map(each -> each.getSimpleName().toString()).findFirst()
+                services.attribution().start(use) > behind && !isInOtherBranch(use, wait)))).map(each -> each.getSimpleName().toString()).findFirst()
             .orElse(null);
     }
 
@@ -77,6 +78,25 @@ record WaitTurns(Services services) {
             all.addAll(each.getUpdate());
         }
         return all;
+    }
+
+    /** Whether one of two trees stands in the one branch of an {@code if}, and one in the other. */
+    private boolean isInOtherBranch(Tree one, Tree other) {
+        Set<Tree> around = new HashSet<>();
+        for (Tree each = other; each != null; each = services.attribution().parent(each)) {
+            around.add(each);
+        }
+        Tree below = one;
+        for (Tree each = services.attribution().parent(one); each != null; each = services.attribution().parent(each)) {
+            if (around.contains(each)) {
+                Tree inner = below;
+                return each instanceof IfTree branch && (branch.getElseStatement() == inner
+                    && around.contains(branch.getThenStatement()) || branch.getThenStatement() == inner
+                    && branch.getElseStatement() != null && around.contains(branch.getElseStatement()));
+            }
+            below = each;
+        }
+        return false;
     }
 
     /** Whether a local is read behind the loop, or given back from within it. */
