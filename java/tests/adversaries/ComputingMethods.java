@@ -125,11 +125,21 @@ class ComputingRegisters {
         }
     }
 
+    static class Numbered {
+        static final AtomicInteger NUMBERS = new AtomicInteger();
+        final int number = NUMBERS.incrementAndGet();
+    }
+
+    private final ConcurrentMap<Integer, Numbered> numbered = new ConcurrentHashMap<>();
     private final ConcurrentMap<Integer, Part> parts = new ConcurrentHashMap<>();
     private final ConcurrentMap<Integer, Plain> plain = new ConcurrentHashMap<>();
 
     /* atomic */ Part part(int number) { // refused: others know it before the map has it
         return parts.computeIfAbsent(number, Part::new);
+    }
+
+    /* atomic */ Numbered numbered(int number) { // refused: the number is drawn before the map has it
+        return numbered.computeIfAbsent(number, key -> new Numbered());
     }
 
     /* atomic */ Plain plain(int number) { // accepted

@@ -69,7 +69,7 @@ final class Computing {
         }
         Scanner scanner = new Scanner(method);
         scanner.scan(method.tree().getBody(), null);
-        if (method.isConstructor() && !Initialisers.callsAnother(method.tree())) {
+        if (method.isConstructor()) {
             method.owner().tree().getMembers().stream().filter(Computing::isInitialiser)
                 .forEach(each -> scanner.scan(each, null));
         }
