@@ -13,7 +13,7 @@ set -eu
 top=$(cd "$(dirname "$0")/.." && pwd)
 case ${1-} in --sample | --traces) ;; -*) sed -n '2,12s/^# \{0,1\}//p' "$0"; exit 2 ;; esac
 archive=
-for each in /usr/lib/jvm/openjdk-17/lib/src.zip /usr/lib/jvm/*/lib/src.zip; do
+for each in /usr/lib/jvm/openjdk-17/lib/src.zip /usr/lib/jvm/*17*/lib/src.zip; do
     [ -f "$each" ] && archive=$each && break
 done
 if [ -z "$archive" ]; then

@@ -147,8 +147,7 @@ public final class Fields {
         if (isVolatile && !contents) {
             field.order();
         }
-        if (contents ? isWide(elementType(java)) || program.library().hasContents(elementType(java))
-                : isWide(java.asType()) && !isVolatile) {
+        if (contents ? isWide(elementType(java)) || holdsContents(elementType(java)) : isWide(java.asType()) && !isVolatile) {
             field.widen();
         }
         return new Home(field, holder);
@@ -243,6 +242,13 @@ public final class Fields {
         }
         return program.find(type) == node || type instanceof javax.lang.model.type.DeclaredType declared
             && declared.getTypeArguments().stream().anyMatch(each -> leadsTo(each, node));
+    }
+
+    /** Whether what an array holds has contents of its own; those of a class at hand are its fields, which are judged themselves. */
+    private boolean holdsContents(javax.lang.model.type.TypeMirror element) {
+        JavaClass known = program.find(element);
+        boolean plain = known != null && known.symbol().getSuperclass().toString().equals("java.lang.Object");
+        return !plain && program.library().hasContents(element);
     }
 
     private static javax.lang.model.type.TypeMirror elementType(VariableElement field) {

@@ -56,10 +56,10 @@ record WaitTurns(Services services) {
         Turn turn = new Turn(around, wait);
         turn.scan(body(around), null);
         long behind = services.attribution().end(wait);
-        return Stream.concat(turn.kept.stream().filter(each -> isUsedBehind(each, around)),
-            turn.seen.stream().filter(each -> services.uses().of(each).stream().anyMatch(use ->
-                services.attribution().start(use) > behind && !isInOtherBranch(use, wait)))).map(each -> each.getSimpleName().toString()).findFirst()
-            .orElse(null);
+        Stream<VariableElement> kept = turn.kept.stream().filter(each -> isUsedBehind(each, around));
+        Stream<VariableElement> seen = turn.seen.stream().filter(each -> services.uses().of(each).stream().anyMatch(use ->
+            services.attribution().start(use) > behind && !isInOtherBranch(use, wait)));
+        return Stream.concat(kept, seen).map(each -> each.getSimpleName().toString()).findFirst().orElse(null);
     }
 
     private static boolean isLoop(Tree tree) {
