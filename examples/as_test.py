@@ -1,5 +1,5 @@
 #!/usr/bin/env python3
-"""Writes the test file that holds each example of this folder against the lines that the README states.
+"""Writes the test file that holds each example of the README's first table against the lines that it states.
 
     python3 as_test.py > ../crates/atomic_cli/src/examples.rt
     python3 as_test.py --check ../crates/atomic_cli/src/examples.rt
@@ -30,7 +30,8 @@ def literal(text: str) -> str:
 
 
 def rows() -> Iterator[Row]:
-    for name, cell, status in ROW.findall(read("README.md")):
+    first, _, _ = read("README.md").partition("\n## ")
+    for name, cell, status in ROW.findall(first):
         lines = "".join(line + "\n" for line in re.findall(r"`([^`]*)`", cell))
         yield name, read(name), status, lines
 
