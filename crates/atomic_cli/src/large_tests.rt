@@ -29,7 +29,7 @@ fn serialise_reads_its_own_large_output(rt: HostRuntime) -> Result<(), Fail> {
 }
 
 /// A book for `LOCKED` with this derivation. Its table has 235,300 trees that no node names, so that it has more than 4,000,000
-/// bytes, and is judged in place.
+/// bytes.
 fn long_book(alloc: Global, nodes: &str) -> Result<String, Fail> {
     let mut text = String::from_str(
         alloc,
@@ -69,7 +69,7 @@ static DERIVATIONS: [(&str, u8, &str); 4] = [
 ];
 
 #[test]
-fn long_books_are_judged_in_place(rt: HostRuntime) -> Result<(), Fail> {
+fn long_books_are_judged(rt: HostRuntime) -> Result<(), Fail> {
     for (nodes, status, text) in &DERIVATIONS {
         let given = long_book(rt.alloc(), nodes)?;
         expect(

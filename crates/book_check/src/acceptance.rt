@@ -5,6 +5,7 @@ ghost use Rattle.core_program.specs.Views.{program_of};
 ghost use Rattle.conditions.specs.Conditions.{cond_of, Cond};
 ghost use Rattle.books.specs.Books.{Book, Line, AreTrees};
 ghost use Rattle.books.specs.Memory.{book_of};
+ghost use Rattle.book_lists.specs.Listed.{IsListedBook};
 ghost use Rattle.books.specs.Views.{IsCursorAt};
 ghost use Rattle.rules.specs.Near.{AreRelevant, loc_of, rel_of};
 ghost use Rattle.rules.specs.Rules.{IsAdmissible};
@@ -30,13 +31,13 @@ use crate::overs::{Overs, overs_of};
 use crate::passes::{lines, shapes};
 use crate::work::Work;
 use crate::wrong::{TextWrong, Wrong};
-use books::{BookCursor, BookFault, DerivBook, Lines, LinesInMemory, read_book};
+use book_lists::{LinesInList, ListedBook, read_listed};
+use books::{BookCursor, BookFault, DerivBook, Lines, LinesInMemory};
 use conditions::Tree;
 use core_program::CoreProgram;
 use rules::RelevantSets;
 use std::alloc::Global;
 use std::cell::Cell;
-use std::mem::forget;
 
 /// A program whose book was refused, with its relevant sets and the reason.
 #[derive(Drop)]
@@ -139,30 +140,25 @@ fn judged_memory(
     judged_book(alloc, program, sets, book.table.as_slice(), lines)
 }
 
-/// How many bytes of text are judged in memory at most. A derivation takes up to 21 times the bytes of its text there, so that a
-/// longer text is judged in place, which takes memory for its table alone.
-const MOST_IN_MEMORY: usize = 4_000_000;
-
-/// The judgement of a book whose memory is given back when the program ends: to give it back node by node takes as long as a fifth
-/// of all that is judged.
-fn judged_and_kept(
+/// The judgement of a book in lists.
+fn judged_listed(
     alloc: Global,
     program: &CoreProgram,
     sets: &RelevantSets,
-    book: DerivBook,
-) -> Result<(), TextWrong>
+    lists: &ListedBook,
+) -> Result<(), Wrong>
+    requires listed { (book : Book) × IsListedBook lists.now book }
     requires typed { IsTyped (program_of program.now) }
     requires relevant { AreRelevant (program_of program.now) sets.now }
-    ensures judged { (bytes : List ℕ) → IsBookText bytes (book_of book) → IsJudgedText (program_of program.now) (rel_of sets.now) bytes result }
-    ensures near { IsNearBook (rel_of sets.now) (loc_of sets.now) (book_of book) → IfErr result (λ why. why ≢ TextWrong.Wrong Wrong.Work) }
-    ensures work { IfErr result (λ why. why ≡ TextWrong.Wrong Wrong.Work → most_book_work < book_work (program_of program.now) (book_of book)) }
+    ensures verdict { (book : Book) → IsListedBook lists.now book → IsBookVerdict (program_of program.now) (rel_of sets.now) book result }
+    ensures near { (book : Book) → IsListedBook lists.now book → IsNearBook (rel_of sets.now) (loc_of sets.now) book → IfErr result (λ why. why ≢ Wrong.Work) }
+    ensures work { (book : Book) → IsListedBook lists.now book → IfErr result (λ why. why ≡ Wrong.Work → most_book_work < book_work (program_of program.now) book) }
 {
-    let verdict = judged_memory(alloc, program, sets, &book);
-    forget(book);
-    match verdict {
-        Ok(()) => Ok(()),
-        Err(wrong) => Err(TextWrong::Wrong(wrong)),
-    }
+    let lines = LinesInList {
+        lines: lists.lines.as_slice(),
+        nodes: lists.nodes.as_slice(),
+    };
+    judged_book(alloc, program, sets, lists.table.as_slice(), lines)
 }
 
 /// The judgement of the book at which a cursor stands, with no derivation in memory.
@@ -210,8 +206,8 @@ fn judged_in_place(
     }
 }
 
-/// The judgement of a text for a program. A short text is read into memory, where there is enough: there a node's premises are passed
-/// over at once.
+/// The judgement of a text for a program. The text is read into lists, where there is memory: there a node's premises are passed over
+/// at once. Else, and where it is no book's, it is judged in place.
 fn judged(
     alloc: Global,
     program: &CoreProgram,
@@ -225,13 +221,12 @@ fn judged(
     ensures near { (book : Book) → IsBookText bytes.now book → IsNearBook (rel_of sets.now) (loc_of sets.now) book → IfErr result (λ why. why ≢ TextWrong.Wrong Wrong.Work) }
     ensures work { (book : Book) → IsBookText bytes.now book → IfErr result (λ why. why ≡ TextWrong.Wrong Wrong.Work → most_book_work < book_work (program_of program.now) book) }
 {
-    if bytes.len() > MOST_IN_MEMORY {
+    let Ok(lists) = read_listed(alloc, bytes) else {
         return judged_in_place(alloc, program, sets, bytes);
-    }
-    match read_book(alloc, bytes) {
-        Ok(book) => judged_and_kept(alloc, program, sets, book),
-        Err(BookFault::NoMemory) => judged_in_place(alloc, program, sets, bytes),
-        Err(fault) => Err(TextWrong::Book(fault)),
+    };
+    match judged_listed(alloc, program, sets, &lists) {
+        Ok(()) => Ok(()),
+        Err(wrong) => Err(TextWrong::Wrong(wrong)),
     }
 }
 

@@ -1,0 +1,2 @@
+-- What lists of nodes have, and how they grow.
+pub mod ListLaws

@@ -1,0 +1,2 @@
+-- Books in lists.
+pub mod Listed
