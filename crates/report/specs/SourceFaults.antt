@@ -1,8 +1,8 @@
--- The line that is written for the first fault of a source.
-use Rattle.std.specs.Prelude.{ℕ, List, ◌++◌, codes, decimal}
+-- Where the first fault of a source is told, and the line that is written for it.
+use Rattle.std.specs.Prelude.{ℕ, List, ◌++◌, codes}
 use Rattle.lexer.specs.declared.faults.LexFault.{LexFault}
 use Rattle.lexer.specs.declared.faults.LexFault.TheVariants as lex
-use Rattle.lexer.specs.Places.{line_of, column_of}
+use Rattle.lexer.specs.Places.{line_of, column_of, place_text}
 use Rattle.parser.specs.declared.faults.ParseFault.{ParseFault}
 use Rattle.parser.specs.declared.faults.ParseFault.TheVariants as parse
 use Rattle.classes.specs.declared.fault.ClassFault.{ClassFault}
@@ -136,10 +136,9 @@ fault_words (source.Types fault) = type_kind fault
 fault_words (source.Locks at) = locks_kind
 
 -- `refused at LINE:COLUMN: KIND`
-abbrev pub refused_line : List ℕ → ℕ → List ℕ → List ℕ
-refused_line text at kind =
-    codes "refused at " ++ decimal (line_of text at) ++ codes ":" ++ decimal (column_of text at) ++ codes ": " ++ kind ++ codes "\n"
+abbrev pub refused_at_place : (line column : ℕ) → List ℕ → List ℕ
+refused_at_place line column kind = codes "refused at " ++ place_text line column ++ codes ": " ++ kind ++ codes "\n"
 
--- the line of a fault: the line and column of its offset, and what it is
-abbrev pub source_fault_line : List ℕ → SourceFault → List ℕ
-source_fault_line text fault = refused_line text (source_fault_offset fault) (fault_words fault)
+-- that line, with the line and the column of an offset of the text
+abbrev pub refused_line : List ℕ → ℕ → List ℕ → List ℕ
+refused_line text at kind = refused_at_place (line_of text at) (column_of text at) kind

@@ -11,7 +11,7 @@ mod verdict;
 
 pub use refused::refused_at_text;
 pub use schedules::{open_text, schedule_fault_text, stopped_text};
-pub use source_fault::{SourceFault, source_fault_text};
+pub use source_fault::{SourceFault, refused_text, write_place};
 pub use states::state_text;
 pub use values::{write_address, write_value};
 pub use verdict::{atomicity_text, broken_text, write_fields, write_path, write_title};

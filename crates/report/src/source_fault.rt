@@ -1,9 +1,9 @@
-//! The line for the first fault of a source.
+//! Where the first fault of a source is told, and its line.
 
-ghost use Rattle.std.specs.Prelude.{◌≡◌, ◌≤◌, length, string_bytes, IfOk};
+ghost use Rattle.std.specs.Prelude.{◌≡◌, ◌≤◌, ◌++◌, length, string_bytes, IfOk, OnOk};
 ghost use Rattle.lexer.specs.Limits.{longest_source};
-ghost use Rattle.lexer.specs.Places.{line_of, column_of};
-ghost use Rattle.report.specs.SourceFaults.{IsToldFault, source_fault_offset, lex_offset_of, class_offset_of, type_offset_of, fault_words, lex_kind, parse_kind, class_kind, type_kind, source_fault_line};
+ghost use Rattle.lexer.specs.Places.{line_of, column_of, place_text};
+ghost use Rattle.report.specs.SourceFaults.{source_fault_offset, lex_offset_of, class_offset_of, type_offset_of, fault_words, lex_kind, parse_kind, class_kind, type_kind, refused_at_place};
 
 use base::write_number;
 use classes::ClassFault;
@@ -30,7 +30,7 @@ pub enum SourceFault {
 }
 
 impl SourceFault {
-    ghost use Rattle.report.specs.SourceFaults.{IsToldFault, source_fault_offset, fault_words};
+    ghost use Rattle.report.specs.SourceFaults.{source_fault_offset, fault_words};
 
     fn at(&self) -> u32
         ensures { result ≡ source_fault_offset self.now }
@@ -44,7 +44,17 @@ impl SourceFault {
         }
     }
 
-    fn kind(&self) -> &'static str
+    /// The place in this text at which the fault is told; one past the text's end is told at the end.
+    pub fn place(&self, text: &str) -> Place
+        requires { length text.now ≤ longest_source }
+        ensures line { result.line ≡ line_of text.now (source_fault_offset self.now) }
+        ensures column { result.column ≡ column_of text.now (source_fault_offset self.now) }
+    {
+        place_in(text, self.at())
+    }
+
+    /// The words for the fault.
+    pub fn kind(&self) -> &'static str
         ensures { result.now ≡ fault_words self.now }
     {
         match self {
@@ -164,17 +174,21 @@ fn place_in(text: &str, at: u32) -> Place
     place_of(text, at.min(text.len() as u32))
 }
 
-/// The line for a fault of this source, or, for bytes that aren't UTF-8, of their longest front that is.
-pub fn source_fault_text(alloc: Global, text: &str, fault: &SourceFault) -> Result<String, NoMemory>
-    requires small { length text.now ≤ longest_source }
-    requires told { IsToldFault fault.now }
-    ensures { IfOk result (λ line. string_bytes line ≡ source_fault_line text.now fault.now) }
+/// Writes a place.
+pub fn write_place(text: &mut String, place: Place) -> Result<(), NoMemory>
+    ensures { OnOk result (string_bytes text.new ≡ string_bytes text.old ++ place_text place.line place.column) }
 {
-    let place = place_in(text, fault.at());
+    write_number(text, place.line)?;
+    text.push_str(":")?;
+    write_number(text, place.column)
+}
+
+/// The line of a source that is refused at this place for this fault.
+pub fn refused_text(alloc: Global, place: Place, fault: &SourceFault) -> Result<String, NoMemory>
+    ensures { IfOk result (λ line. string_bytes line ≡ refused_at_place place.line place.column (fault_words fault.now)) }
+{
     let mut line = String::from_str(alloc, "refused at ")?;
-    write_number(&mut line, place.line)?;
-    line.push_str(":")?;
-    write_number(&mut line, place.column)?;
+    write_place(&mut line, place)?;
     line.push_str(": ")?;
     line.push_str(fault.kind())?;
     line.push_str("\n")?;

@@ -1,4 +1,4 @@
--- The refusals of a program of the grammar that is no well-formed source.
+-- The ends of a program of the grammar that is no well-formed source.
 use Rattle.std.proofs.Common.{◌≡◌, ℕ, ◌<◌, true, List, [], ◌∷◌, Some, subst, arith, length, slice_get, inl, inr, ◌⊎◌}
 use Rattle.syntax.specs.Trees.{ProgramTree}
 use Rattle.paths.specs.Paths.{PathData}
@@ -13,14 +13,13 @@ use Rattle.typing.specs.declared.fault.TypeFault.{TypeFault}
 use Rattle.typing.specs.declared.fault.TypeFault.TheVariants as types
 use Rattle.typing.specs.Programs as elaboration
 use Rattle.report.specs.declared.source_fault.SourceFault.TheVariants as source
-use Rattle.report.specs.SourceFaults.{IsToldFault, refused_line, class_offset_of, class_kind, type_offset_of, type_kind, locks_kind}
-use Rattle.sources.specs.declared.refusal.Ending.TheVariants.{Refused}
-use Rattle.sources.specs.declared.refusal.Refusal.{Refusal}
-use Rattle.sources.specs.Refusals.{IsRight, Tells}
+use Rattle.report.specs.SourceFaults.{IsToldFault, class_offset_of, class_kind, type_offset_of, type_kind, locks_kind}
+use Rattle.sources.specs.declared.refusal.SourceEnd.{SourceEnd}
+use Rattle.sources.specs.Refusals.{IsRightEnd, TellsAt}
 use Rattle.sources.specs.Programs.{IsProgram}
 use Rattle.sources.specs.Checking.{HasCore, NoSource, class_fault, type_fault, crowded}
 use Rattle.sources.specs.Offsets.{name_offset}
-use Rattle.sources.proofs.Told.{right_refusal}
+use Rattle.sources.proofs.Told.{right_fault}
 
 -- a method with many paths is there
 has_method : (P : Program) (m : ℕ) (paths : List PathData) → 8 < length paths → ((p : PathData) → has_path paths p ≡ true → (method : Method) × (slice_get P.methods m ≡ Some method)) → (method : Method) × (slice_get P.methods m ≡ Some method)
@@ -31,23 +30,22 @@ crowded_method : (P : Program) (m : ℕ) → IsCrowded P m → (method : Method)
 crowded_method P m (inl many) = has_method P m many.paths many.many (λ p h. let is = (many.each p h).1 in (is.0, is.1))
 crowded_method P m (inr many) = has_method P m many.paths many.many (λ p h. let is = (many.each p h).1 in (is.0, is.1))
 
--- the refusal at the name of the first method with too many locks
-pub crowded_refusal : (file : List ℕ) (tree : ProgramTree) (P : Program) (m : ℕ) (r : Refusal) → HasCore file tree P → IsFirstCrowded P m
-    → Tells Refused (refused_line file (name_offset (slice_get P.methods m)) locks_kind) r → IsRight (NoSource file) r
-crowded_refusal file tree P m r core first tells =
+-- the end at the name of the first method with too many locks
+pub crowded_end : (file : List ℕ) (tree : ProgramTree) (P : Program) (m : ℕ) (e : SourceEnd) → HasCore file tree P → IsFirstCrowded P m
+    → TellsAt file (name_offset (slice_get P.methods m)) locks_kind e → IsRightEnd (NoSource file) e
+crowded_end file tree P m e core first tells =
     let found = crowded_method P m first.crowded in
-    let line = refused_line file found.0.place_at locks_kind in
-    right_refusal (NoSource file) Refused line r (crowded tree P m found.0 core first found.1)
-    (subst (λ o. Tells Refused (refused_line file (name_offset o) locks_kind) r) found.1 tells)
+    right_fault (NoSource file) file found.0.place_at locks_kind e (crowded tree P m found.0 core first found.1)
+    (subst (λ o. TellsAt file (name_offset o) locks_kind e) found.1 tells)
 
--- the refusal for the first fault of the classes
-pub class_refusal : (file : List ℕ) (tree : ProgramTree) (fault : ClassFault) (r : Refusal) → IsProgram file tree → IsToldFault (source.Class fault)
-    → (fault ≡ class.NoMemory) ⊎ classes.IsFirstClassFault tree fault → Tells Refused (refused_line file (class_offset_of fault) (class_kind fault)) r → IsRight (NoSource file) r
-class_refusal file tree fault r is told (inl e) tells = absurd (subst (λ f. IsToldFault (source.Class f)) e told)
-class_refusal file tree fault r is told (inr first) tells = right_refusal (NoSource file) Refused _ r (class_fault tree fault is first) tells
+-- the end for the first fault of the classes
+pub class_end : (file : List ℕ) (tree : ProgramTree) (fault : ClassFault) (e : SourceEnd) → IsProgram file tree → IsToldFault (source.Class fault)
+    → (fault ≡ class.NoMemory) ⊎ classes.IsFirstClassFault tree fault → TellsAt file (class_offset_of fault) (class_kind fault) e → IsRightEnd (NoSource file) e
+class_end file tree fault e is told (inl none) tells = absurd (subst (λ f. IsToldFault (source.Class f)) none told)
+class_end file tree fault e is told (inr first) tells = right_fault (NoSource file) file (class_offset_of fault) (class_kind fault) e (class_fault tree fault is first) tells
 
--- the refusal for the first fault of the types
-pub type_refusal : (file : List ℕ) (tree : ProgramTree) (fault : TypeFault) (r : Refusal) → IsProgram file tree → classes.all_class_faults tree ≡ [] → IsToldFault (source.Types fault)
-    → (fault ≡ types.NoMemory) ⊎ elaboration.IsFirstTypeFault tree fault → Tells Refused (refused_line file (type_offset_of fault) (type_kind fault)) r → IsRight (NoSource file) r
-type_refusal file tree fault r is faultless told (inl e) tells = absurd (subst (λ f. IsToldFault (source.Types f)) e told)
-type_refusal file tree fault r is faultless told (inr first) tells = right_refusal (NoSource file) Refused _ r (type_fault tree fault is faultless first) tells
+-- the end for the first fault of the types
+pub type_end : (file : List ℕ) (tree : ProgramTree) (fault : TypeFault) (e : SourceEnd) → IsProgram file tree → classes.all_class_faults tree ≡ [] → IsToldFault (source.Types fault)
+    → (fault ≡ types.NoMemory) ⊎ elaboration.IsFirstTypeFault tree fault → TellsAt file (type_offset_of fault) (type_kind fault) e → IsRightEnd (NoSource file) e
+type_end file tree fault e is faultless told (inl none) tells = absurd (subst (λ f. IsToldFault (source.Types f)) none told)
+type_end file tree fault e is faultless told (inr first) tells = right_fault (NoSource file) file (type_offset_of fault) (type_kind fault) e (type_fault tree fault is faultless first) tells

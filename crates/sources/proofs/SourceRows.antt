@@ -13,11 +13,12 @@ use Rattle.syntax.specs.Trees.{ProgramTree}
 use Rattle.sources.specs.declared.checking.Source.{Source}
 use Rattle.sources.specs.declared.refusal.Ending.TheVariants.{Done}
 use Rattle.sources.specs.declared.refusal.Refusal.{Refusal}
-use Rattle.sources.specs.Refusals.{IsRight}
+use Rattle.sources.specs.declared.refusal.SourceEnd.{SourceEnd}
+use Rattle.sources.specs.Refusals.{IsRight, IsRightEnd, TellsEnd}
 use Rattle.sources.specs.Programs.{IsProgram, NoProgram}
 use Rattle.sources.specs.Checking.{NoSource, IsSourceOf}
 use Rattle.sources.specs.Verdicts.{NoAccepted, no_source, IsShownLeast}
-use Rattle.sources.proofs.Told.{right_of_more, more_refused}
+use Rattle.sources.proofs.Told.{right_of_more, right_end, more_refused}
 use Rattle.sources.proofs.Verdicts.{well_formed_source, few_methods}
 use Rattle.sources.specs.Check.{CheckAnswer, not_accepted, judged, report_from}
 use Rattle.sources.specs.Print.{PrintAnswer, no_program, printed}
@@ -28,8 +29,8 @@ source_refused file r is = right_of_more (NoSource file) (CheckAnswer file) (λ 
 pub rules_refused : (file : List ℕ) (r : Refusal) → IsRight (NoAccepted file) r → IsRight (CheckAnswer file) r
 rules_refused file r is = right_of_more (NoAccepted file) (CheckAnswer file) (λ ending line i. not_accepted i) r is
 
-pub program_refused : (file : List ℕ) (r : Refusal) → IsRight (NoProgram file) r → IsRight (PrintAnswer file) r
-program_refused file r is = right_of_more (NoProgram file) (PrintAnswer file) (λ ending line i. no_program i) r is
+pub program_refused : (file : List ℕ) (e : SourceEnd) (r : Refusal) → IsRightEnd (NoProgram file) e → TellsEnd e r → IsRight (PrintAnswer file) r
+program_refused file e r is tells = right_of_more (NoProgram file) (PrintAnswer file) (λ ending line i. no_program i) r (right_end (NoProgram file) e r is tells)
 
 -- the exit of a refusal of the rules
 pub judged_refusal : {T : Type 0} (file : List ℕ) (Q : T → Type 0) (r : Result T Refusal) (e its : Refusal) → r ≡ Err e → e ≡ its → IsRight (NoAccepted file) its → MatchResult r Q (IsRight (CheckAnswer file))

@@ -1,5 +1,5 @@
-//! From the bytes of a source to its tree, its core program, its locks and its least closed assignment, or to the line
-//! that refuses it. The commands on a source alone, over the bytes of its file: what `check` and `print` answer, and
+//! From the bytes of a source to its tree, its core program, its locks and its least closed assignment, or to its first
+//! fault or the line that refuses it. The commands on a source alone, over the bytes of its file: what `check` and `print` answer, and
 //! when they end how.
 #![tactic(auto)]
 
@@ -17,4 +17,4 @@ pub use checking::{Source, read_source, well_formed};
 pub use laws::refusal_laws;
 pub use print_command::print;
 pub use reading::{text_of, tree_of};
-pub use refusal::{Ending, Refusal};
+pub use refusal::{Ending, Refusal, SourceEnd};

@@ -6,55 +6,55 @@ ghost use Rattle.lexer.specs.Limits.{longest_source};
 ghost use Rattle.lexer.specs.Tokens.{Tokens, FirstFault};
 ghost use Rattle.syntax.specs.Faults.{IsUnexpected, IsTooDeep};
 ghost use Rattle.syntax.specs.Views.{program_tree};
-ghost use Rattle.sources.specs.Refusals.{IsRight};
+ghost use Rattle.sources.specs.Refusals.{IsRightEnd};
 ghost use Rattle.sources.specs.Programs.{IsProgram, NoProgram, token_offset};
 
-use crate::refusal::{Refusal, refuse};
+use crate::refusal::{SourceEnd, refuse};
 use lexer::{LexFault, NotText, Token, lex, utf8_text};
 use parser::{ParseFault, parse};
 use report::SourceFault;
 use std::alloc::Global;
 use syntax::Program;
 
-fn not_text(alloc: Global, bytes: &[u8], fault: NotText) -> Refusal
+fn not_text(bytes: &[u8], fault: NotText) -> SourceEnd
     requires small { length bytes.now ≤ longest_source }
     requires front { IsValidUpTo bytes.now fault.at }
-    ensures { IsRight (NoProgram bytes.now) result }
+    ensures { IsRightEnd (NoProgram bytes.now) result }
 {
     let Ok(front) = utf8_text(&bytes[..fault.at as usize]) else {
         unreachable!()
     };
-    refuse(alloc, front, &SourceFault::Text(fault))
+    refuse(front, &SourceFault::Text(fault))
 }
 
-/// The text that the bytes of a source are. Takes memory for a refusal alone.
-pub fn text_of(alloc: Global, bytes: &[u8]) -> Result<&str, Refusal>
+/// The text that the bytes of a source are. Takes no memory.
+pub fn text_of(bytes: &[u8]) -> Result<&str, SourceEnd>
     requires { length bytes.now ≤ longest_source }
-    ensures { MatchResult result (λ text. text.now ≡ bytes.now) (IsRight (NoProgram bytes.now)) }
+    ensures { MatchResult result (λ text. text.now ≡ bytes.now) (IsRightEnd (NoProgram bytes.now)) }
 {
     match utf8_text(bytes) {
         Ok(text) => Ok(text),
-        Err(fault) => Err(not_text(alloc, bytes, fault)),
+        Err(fault) => Err(not_text(bytes, fault)),
     }
 }
 
-fn no_tokens(alloc: Global, text: &str, fault: LexFault) -> Refusal
+fn no_tokens(text: &str, fault: LexFault) -> SourceEnd
     requires small { length text.now ≤ longest_source }
     requires first { FirstFault text.now fault }
-    ensures { IsRight (NoProgram text.now) result }
+    ensures { IsRightEnd (NoProgram text.now) result }
 {
-    refuse(alloc, text, &SourceFault::Lex(fault))
+    refuse(text, &SourceFault::Lex(fault))
 }
 
 /// The tokens of a text.
-fn tokens_of<'a>(alloc: Global, text: &'a str) -> Result<Vec<Token<'a>>, Refusal>
+fn tokens_of<'a>(alloc: Global, text: &'a str) -> Result<Vec<Token<'a>>, SourceEnd>
     requires { length text.now ≤ longest_source }
-    ensures { MatchResult result (λ tokens. Tokens text.now tokens.items) (IsRight (NoProgram text.now)) }
+    ensures { MatchResult result (λ tokens. Tokens text.now tokens.items) (IsRightEnd (NoProgram text.now)) }
 {
     match lex(alloc, text) {
         Ok(tokens) => Ok(tokens),
-        Err(LexFault::NoMemory) => Err(Refusal::NoMemory),
-        Err(fault) => Err(no_tokens(alloc, text, fault)),
+        Err(LexFault::NoMemory) => Err(SourceEnd::NoMemory),
+        Err(fault) => Err(no_tokens(text, fault)),
     }
 }
 
@@ -69,33 +69,33 @@ fn offset_of(text: &str, tokens: &[Token], place: u32) -> u32
     }
 }
 
-/// The refusal of a text for a fault at one of its tokens.
-fn no_tree(alloc: Global, text: &str, tokens: &[Token], fault: ParseFault, place: u32) -> Refusal
+/// The end of a text for a fault at one of its tokens.
+fn no_tree(text: &str, tokens: &[Token], fault: ParseFault, place: u32) -> SourceEnd
     requires small { length text.now ≤ longest_source }
     requires cut { Tokens text.now tokens.now }
     requires stands { ((fault ≡ ParseFault.Unexpected place) × IsUnexpected tokens.now place) ⊎ ((fault ≡ ParseFault.TooDeep place) × IsTooDeep tokens.now place) }
-    ensures { IsRight (NoProgram text.now) result }
+    ensures { IsRightEnd (NoProgram text.now) result }
 {
     let at = offset_of(text, tokens, place);
-    refuse(alloc, text, &SourceFault::Parse { fault, at })
+    refuse(text, &SourceFault::Parse { fault, at })
 }
 
 /// The tree that the grammar relates to the tokens of a text.
-pub fn tree_of<'a>(alloc: Global, text: &'a str) -> Result<Program<'a>, Refusal>
+pub fn tree_of<'a>(alloc: Global, text: &'a str) -> Result<Program<'a>, SourceEnd>
     requires { length text.now ≤ longest_source }
-    ensures { MatchResult result (λ tree. IsProgram text.now (program_tree tree)) (IsRight (NoProgram text.now)) }
+    ensures { MatchResult result (λ tree. IsProgram text.now (program_tree tree)) (IsRightEnd (NoProgram text.now)) }
 {
     let tokens = tokens_of(alloc, text)?;
     match parse(alloc, tokens.as_slice()) {
         Ok(tree) => Ok(tree),
-        Err(ParseFault::NoMemory) => Err(Refusal::NoMemory),
+        Err(ParseFault::NoMemory) => Err(SourceEnd::NoMemory),
         Err(ParseFault::Unexpected(place)) => {
             let fault = ParseFault::Unexpected(place);
-            Err(no_tree(alloc, text, tokens.as_slice(), fault, place))
+            Err(no_tree(text, tokens.as_slice(), fault, place))
         }
         Err(ParseFault::TooDeep(place)) => {
             let fault = ParseFault::TooDeep(place);
-            Err(no_tree(alloc, text, tokens.as_slice(), fault, place))
+            Err(no_tree(text, tokens.as_slice(), fault, place))
         }
     }
 }

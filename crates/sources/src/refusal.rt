@@ -1,11 +1,12 @@
-//! How a command on files ends, and a refusal on the way.
+//! How a command on files ends, why a source isn't read, and a refusal on the way.
 
 ghost use Rattle.std.specs.Prelude.{◌≡◌, ◌≤◌, length};
 ghost use Rattle.lexer.specs.Limits.{longest_source};
-ghost use Rattle.report.specs.SourceFaults.{IsToldFault, source_fault_line};
-ghost use Rattle.sources.specs.Refusals.{Tells};
+ghost use Rattle.report.specs.SourceFaults.{IsToldFault, source_fault_offset, fault_words};
+ghost use Rattle.sources.specs.Refusals.{TellsAt, TellsEnd};
 
-use report::{SourceFault, source_fault_text};
+use lexer::Place;
+use report::{SourceFault, refused_text};
 use std::alloc::{AllocError, AllocError as NoMemory, Global};
 
 /// How a command on files ends: done, or with the first refusal in the order of work.
@@ -58,6 +59,26 @@ impl Ending {
     }
 }
 
+/// Why a source isn't read: its first fault, or want of memory.
+#[derive(Clone, Copy)]
+pub enum SourceEnd {
+    /// The source is refused as it stands: the place at which that is told, and the fault.
+    Fault(Place, SourceFault),
+    /// Memory was refused.
+    NoMemory,
+}
+
+impl From<AllocError> for SourceEnd {
+    ghost use Rattle.std.specs.Prelude.{◌≡◌};
+    ghost use Rattle.sources.specs.declared.refusal.SourceEnd.TheVariants as ends;
+
+    ghost from_gives = { λ _ e. e ≡ ends.NoMemory };
+
+    fn from(_error: AllocError) -> SourceEnd {
+        SourceEnd::NoMemory
+    }
+}
+
 /// Why a command ends without its own text.
 #[derive(Drop)]
 pub enum Refusal {
@@ -78,15 +99,25 @@ impl From<AllocError> for Refusal {
     }
 }
 
-/// The refusal of a source for a fault of this text.
-pub fn refuse(alloc: Global, text: &str, fault: &SourceFault) -> Refusal
+/// The end of a source for a fault of this text.
+pub fn refuse(text: &str, fault: &SourceFault) -> SourceEnd
     requires small { length text.now ≤ longest_source }
     requires told { IsToldFault fault.now }
-    ensures line { Tells Ending.Refused (source_fault_line text.now fault.now) result }
+    ensures line { TellsAt text.now (source_fault_offset fault.now) (fault_words fault.now) result }
     ensures told { IsToldFault fault.now }
 {
-    match source_fault_text(alloc, text, fault) {
-        Ok(line) => Refusal::Line(Ending::Refused, line),
-        Err(NoMemory) => Refusal::NoMemory,
+    SourceEnd::Fault(fault.place(text), *fault)
+}
+
+/// The refusal of a source that isn't read.
+pub fn refusal_of(alloc: Global, end: SourceEnd) -> Refusal
+    ensures { TellsEnd end result }
+{
+    match end {
+        SourceEnd::Fault(place, fault) => match refused_text(alloc, place, &fault) {
+            Ok(line) => Refusal::Line(Ending::Refused, line),
+            Err(NoMemory) => Refusal::NoMemory,
+        },
+        SourceEnd::NoMemory => Refusal::NoMemory,
     }
 }

@@ -6,7 +6,7 @@ ghost use Rattle.parser.specs.declared.faults.ParseFault.TheVariants as parse;
 ghost use Rattle.classes.specs.declared.fault.ClassFault.TheVariants as class;
 ghost use Rattle.typing.specs.declared.fault.TypeFault.TheVariants as types;
 ghost use Rattle.report.specs.declared.source_fault.SourceFault.TheVariants as source;
-ghost use Rattle.report.specs.SourceFaults.{source_fault_offset, fault_words, lex_offset_of, class_offset_of, type_offset_of, lex_kind, parse_kind, class_kind, type_kind, refused_line, source_fault_line};
+ghost use Rattle.report.specs.SourceFaults.{source_fault_offset, fault_words, lex_offset_of, class_offset_of, type_offset_of, lex_kind, parse_kind, class_kind, type_kind, refused_line};
 ghost use Rattle.schedule.specs.declared.reader.SchedFault.TheVariants as schedule;
 ghost use Rattle.report.specs.Schedules.{schedule_fault_line, stopped_line, inside_call_line};
 ghost use Rattle.state.specs.declared.value.Fault.TheVariants.{Zero};
@@ -44,7 +44,7 @@ pub fn which_words_faults_have()
     ensures stages { map fault_words (source.Text (record { at = 9 }) ∷ source.Lex (lex.OpenComment 4) ∷ source.Parse (parse.Unexpected 2) 7 ∷ source.Class (class.Twice 5) ∷ source.Types (types.NoRule 6) ∷ source.Locks 8 ∷ [])
         ≡ codes "not text" ∷ codes "open comment" ∷ codes "unexpected" ∷ codes "declared twice" ∷ codes "no rule" ∷ codes "too many locks" ∷ [] }
     ensures line { refused_line (codes "a\nbc d") 5 (codes "no rule") ≡ codes "refused at 2:4: no rule\n" }
-    ensures fault_line { source_fault_line (codes "a\nbc d") (source.Locks 2) ≡ codes "refused at 2:1: too many locks\n" }
+    ensures fault_line { refused_line (codes "a\nbc d") (source_fault_offset (source.Locks 2)) (fault_words (source.Locks 2)) ≡ codes "refused at 2:1: too many locks\n" }
 {}
 
 /// Lines for schedules.
