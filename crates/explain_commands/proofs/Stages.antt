@@ -9,17 +9,24 @@ use Rattle.core_program.specs.Typed.{IsTyped}
 use Rattle.core_program.specs.Views.{program_of}
 use Rattle.typing.specs.Programs.{core_of}
 use Rattle.explain.specs.Shown.{shown}
+use Rattle.lexer.specs.declared.places.Place.{Place}
+use Rattle.lexer.specs.Places.{line_of}
 use Rattle.places.proofs.InPrograms.{method_made}
 use Rattle.places.specs.Sources.{methods_in}
 use Rattle.rules.specs.Near.{rel_of}
+use Rattle.report.specs.declared.source_fault.SourceFault.{SourceFault}
+use Rattle.report.specs.SourceFaults.{fault_words}
 use Rattle.sources.specs.declared.checking.Source.{Source}
 use Rattle.sources.specs.declared.refusal.Ending.{Ending}
-use Rattle.sources.specs.Checking.{IsSource}
+use Rattle.sources.specs.declared.refusal.Ending.TheVariants.{Refused}
+use Rattle.sources.specs.Checking.{IsSource, NoSource}
+use Rattle.sources.specs.Refusals.{IsRightFault}
 use Rattle.sources.proofs.Verdicts.{well_formed_source}
 use Rattle.syntax.specs.Trees.{MemberTree, MethodM, ProgramTree}
 use Rattle.explain_commands.specs.declared.words.Order.{Order}
 use Rattle.explain_commands.specs.Answers.{ExplainAnswer, judged, IsJudgedProgram, IsText, pages_of}
 use Rattle.explain_commands.specs.Explained.{page_of}
+use Rattle.explain_commands.specs.Faults.{error_line, IsSourceFaultLine}
 use Rattle.explain_commands.specs.Least.{IsLeastJudged}
 use Rattle.explain_commands.specs.Orders.{IsProgramVerdict, ending_in}
 use Rattle.explain_commands.proofs.Bounds.{ends_for, verdict_for}
@@ -61,3 +68,14 @@ judged_text order name tree file source trees declared ending text table members
 pub source_answer : (order : Order) (name file : List ℕ) (tree : ProgramTree) (source : Source) (ending : Ending) (text : List ℕ) → IsSource file tree source
     → IsJudgedProgram order (program_of source.program) (pages_of name file tree) ending text → ExplainAnswer order name file ending text
 source_answer order name file tree source ending text is j = judged tree (program_of source.program) (well_formed_source file tree source is) j
+
+-- what is written for a refused source
+pub fault_told : (name file : List ℕ) (place : Place) (fault : SourceFault) (out : List ℕ) → IsRightFault (NoSource file) place fault → out ≡ error_line name place.line place.column (fault_words fault)
+    → IsSourceFaultLine name file Refused out
+fault_told name file place fault out is same = record {
+  text = is.text;
+  at = is.at;
+  kind = fault_words fault;
+  refused = is.belongs;
+  line_is = same ∙ ap (λ l. error_line name l place.column (fault_words fault)) is.line ∙ ap (λ k. error_line name (line_of is.text is.at) k (fault_words fault)) is.column;
+}

@@ -12,19 +12,19 @@ ghost use Rattle.lexer.specs.Limits.{longest_source};
 ghost use Rattle.rules.specs.Near.{rel_of};
 ghost use Rattle.sources.specs.Checking.{IsSource, NoSource};
 ghost use Rattle.sources.specs.Programs.{IsProgram};
-ghost use Rattle.sources.specs.Refusals.{IsRight};
+ghost use Rattle.sources.specs.Refusals.{IsRightEnd};
 ghost use Rattle.syntax.specs.Views.{member_of, program_tree as tree_of};
 
 use crate::explaining::explained;
 use crate::judging::judge;
-use crate::lines::in_form;
+use crate::lines::fault_text;
 use crate::listing::listed;
 use crate::told::Told;
 use crate::words::Order;
 use effects::Assigned;
 use explain::{Shown, Walk, keep_strictly};
 use places::{LineIndex, methods_in};
-use sources::{Ending, Refusal, Source, text_of, tree_of, well_formed};
+use sources::{Ending, Source, SourceEnd, text_of, tree_of, well_formed};
 use std::alloc::{AllocError as NoMemory, Global};
 use syntax::{Member, Program};
 
@@ -131,17 +131,17 @@ fn judged<'t, 'p, 'a>(
     Ok(said)
 }
 
-/// What is said of a text that has this tree, or the refusal of one that is no well-formed source.
+/// What is said of a text that has this tree, or why it is no well-formed source.
 fn answered_tree<'a>(
     alloc: Global,
     order: Order,
     file: &str,
     text: &'a str,
     tree: &Program<'a>,
-) -> Result<Said, Refusal>
+) -> Result<Said, SourceEnd>
     requires small { length text.now ≤ longest_source }
     requires program { IsProgram text.now (tree_of tree.now) }
-    ensures { MatchResult result (λ said. ExplainAnswer order file.now text.now said.ending (string_bytes said.text)) (IsRight (NoSource text.now)) }
+    ensures { MatchResult result (λ said. ExplainAnswer order file.now text.now said.ending (string_bytes said.text)) (IsRightEnd (NoSource text.now)) }
 {
     let index = LineIndex::new(alloc, text)?;
     let source = well_formed(alloc, text, tree)?;
@@ -149,13 +149,13 @@ fn answered_tree<'a>(
     Ok(said)
 }
 
-/// What is said of bytes, or the refusal of those that are no well-formed source.
+/// What is said of bytes, or why they are no well-formed source.
 #[tactic(auto, using(sources::proofs::Told::refused_source))]
-fn answered(alloc: Global, order: Order, file: &str, bytes: &[u8]) -> Result<Said, Refusal>
+fn answered(alloc: Global, order: Order, file: &str, bytes: &[u8]) -> Result<Said, SourceEnd>
     requires { length bytes.now ≤ longest_source }
-    ensures { MatchResult result (λ said. ExplainAnswer order file.now bytes.now said.ending (string_bytes said.text)) (IsRight (NoSource bytes.now)) }
+    ensures { MatchResult result (λ said. ExplainAnswer order file.now bytes.now said.ending (string_bytes said.text)) (IsRightEnd (NoSource bytes.now)) }
 {
-    let text = text_of(alloc, bytes)?;
+    let text = text_of(bytes)?;
     let tree = tree_of(alloc, text)?;
     answered_tree(alloc, order, file, text, &tree)
 }
@@ -167,10 +167,10 @@ pub fn explain(alloc: Global, order: Order, file: &str, bytes: &[u8]) -> Result<
 {
     match answered(alloc, order, file, bytes) {
         Ok(said) => Ok(said),
-        Err(Refusal::Line(ending, line)) => Ok(Said {
-            ending,
-            text: in_form(alloc, file, line.as_str())?,
+        Err(SourceEnd::Fault(place, fault)) => Ok(Said {
+            ending: Ending::Refused,
+            text: fault_text(alloc, file, place, &fault)?,
         }),
-        Err(Refusal::NoMemory) => Err(NoMemory),
+        Err(SourceEnd::NoMemory) => Err(NoMemory),
     }
 }

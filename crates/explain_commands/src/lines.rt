@@ -1,26 +1,30 @@
 //! The lines that say why nothing is explained.
 
-ghost use Rattle.std.specs.Prelude.{◌≡◌, ◌≤◌, ℕ, List, IfOk, length, string_bytes};
-ghost use Rattle.lexer.specs.Limits.{longest_source};
-ghost use Rattle.report.specs.SourceFaults.{refused_line};
-ghost use Rattle.explain_commands.specs.Faults.{fault_line_at};
+ghost use Rattle.std.specs.Prelude.{◌≡◌, IfOk, string_bytes};
+ghost use Rattle.report.specs.SourceFaults.{fault_words};
+ghost use Rattle.explain_commands.specs.Faults.{error_line};
 
-use edge::joined;
+use lexer::Place;
+use report::{SourceFault, write_place};
 use std::alloc::{AllocError as NoMemory, Global};
 
 /// What is written for words that ask for nothing.
 pub const USAGE: &[u8] = b"usage: atomic_why FILE.. | --all FILE.. | --strict FILE..\n";
 
-/// The line by which `check` refuses a source, in the form of compilers: the file's name, the place, the kind.
-pub fn in_form(alloc: Global, name: &str, line: &str) -> Result<String, NoMemory>
-    ensures { (text : List ℕ) (at : ℕ) (kind : List ℕ) → length text ≤ longest_source → line.now ≡ refused_line text at kind →
-        IfOk result (λ whole. string_bytes whole ≡ fault_line_at name.now text at kind) }
+/// The line of a source that is refused, in the form of compilers: the file's name, the place, the kind.
+pub fn fault_text(
+    alloc: Global,
+    name: &str,
+    place: Place,
+    fault: &SourceFault,
+) -> Result<String, NoMemory>
+    ensures { IfOk result (λ line. string_bytes line ≡ error_line name.now place.line place.column (fault_words fault.now)) }
 {
-    let Some(rest) = line.strip_prefix("refused at ") else {
-        return joined(alloc, &[line]);
-    };
-    match rest.split_once(' ') {
-        Some((place, kind)) => joined(alloc, &[name, ":", place, " error: ", kind]),
-        None => joined(alloc, &[line]),
-    }
+    let mut line = String::from_str(alloc, name)?;
+    line.push_str(":")?;
+    write_place(&mut line, place)?;
+    line.push_str(": error: ")?;
+    line.push_str(fault.kind())?;
+    line.push_str("\n")?;
+    Ok(line)
 }

@@ -1,15 +1,13 @@
 //! What the lines of a method are written with, and how a line begins and ends.
 
 ghost use Rattle.std.specs.Prelude.{◌≡◌, ◌++◌, codes, string_bytes, IfOk, OnOk};
-ghost use Rattle.lexer.specs.Places.{place_text};
 ghost use Rattle.explain_text.specs.Pages.{words_before_kind, note_front, node_offset, place_start};
 ghost use Rattle.explain_text.specs.Blocks.{kind_word};
 ghost use Rattle.explain_text.specs.Views.{page_data};
 
-use base::write_number;
 use classes::ClassTable;
-use lexer::Place;
 use places::{LineIndex, SlotNames};
+use report::write_place;
 use std::alloc::{AllocError as NoMemory, Global};
 
 /// The name of the file, where its lines are, the class table, and of the method that is told the names of its slots and the offsets of
@@ -28,15 +26,6 @@ pub(crate) fn offset_of(page: &Page<'_, '_>, node: usize) -> u32
     ensures { result ≡ node_offset (page_data page.now) node }
 {
     page.offsets.get(node).copied().unwrap_or(0)
-}
-
-/// Writes a place.
-fn write_place(out: &mut String, place: Place) -> Result<(), NoMemory>
-    ensures { OnOk result (string_bytes out.new ≡ string_bytes out.old ++ place_text place.line place.column) }
-{
-    write_number(out, place.line)?;
-    out.push_str(":")?;
-    write_number(out, place.column)
 }
 
 /// Begins a line with a place and these words.
