@@ -4,6 +4,7 @@ use Rattle.std.proofs.lemmas.Bool.Decides.{nat_tests}
 use Rattle.std.proofs.lemmas.List.{length-replicate}
 use Rattle.std.proofs.lemmas.Option.{slice_get_within, get_or_from_slice_get}
 use Rattle.sources.specs.Files.{HasSameFaults}
+use Rattle.sources.proofs.Exact.{told_within}
 use Rattle.edge.specs.declared.transfer.ReadEnd.{ReadEnd}
 use Rattle.edge.specs.declared.transfer.ReadEnd.TheVariants as ends
 use Rattle.edge.specs.Faults.{Rose}
@@ -12,11 +13,6 @@ use Rattle.commands.specs.declared.files.Unread.TheVariants as unread
 use Rattle.commands.specs.Files.{AreFilesTold, AreBounded, first_over}
 use Rattle.commands.specs.Reading.{AreTheirs, AreWithinBefore, AreRead, IsFirstUnread, IsFirstOver}
 use Rattle.commands.specs.Outcomes.{HasMore, IsUnreadFor}
-
--- a fact on what is told of one file
-told_fact : (o : Option (List ℕ)) (bytes : List ℕ) (limit : ℕ) → IfSome o (λ file. bytes ≡ file) → length bytes ≤ limit → IfSome o (λ file. length file ≤ limit)
-told_fact None bytes limit is within = tt
-told_fact (Some file) bytes limit is within = subst (λ b. length b ≤ limit) is within
 
 -- what is told stays told
 theirs_after : (told after : List ℕ → Option (List ℕ)) → ((other : List ℕ) → after other ≡ told other) → (names files : List (List ℕ)) → AreTheirs after names files → AreTheirs told names files
@@ -60,7 +56,7 @@ module _ (told after : List ℕ → Option (List ℕ)) (before mid now : List �
     named = rest.named;
     rose = subst (λ n. Rose n (now its)) (calm its) rest.rose;
     others = λ other differs known. rest.others other differs (subst IsSome (sym (same other)) known) ∙ calm other;
-    earlier = within_after told after same limit limits name names rest.place (told_fact (told name) bytes limit read within) rest.earlier;
+    earlier = within_after told after same limit limits name names rest.place (told_within (told name) bytes limit read within) rest.earlier;
   }))
 
   over_later : (its : List ℕ) → IsFirstOver after mid now limits names its → IsFirstOver told before now all every its
@@ -70,7 +66,7 @@ module _ (told after : List ℕ → Option (List ℕ)) (before mid now : List �
     named = rest.named;
     limited = rest.limited;
     over = subst (λ o. IfSome o (λ file. rest.limit < length file)) (same its) rest.over;
-    earlier = within_after told after same limit limits name names rest.place (told_fact (told name) bytes limit read within) rest.earlier;
+    earlier = within_after told after same limit limits name names rest.place (told_within (told name) bytes limit read within) rest.earlier;
     quiet = λ other. rest.quiet other ∙ calm other;
   }))
 

@@ -1,15 +1,15 @@
 -- When it ends how.
-use Rattle.std.proofs.Common.{◌≡◌, ℕ, ◌<◌, ◌≤◌, List, length, refl, sym, subst, arith, inl, inr}
+use Rattle.std.proofs.Common.{ℕ, ◌<◌, ◌≤◌, List, length, sym, subst, arith}
 use Rattle.lexer.specs.Limits.{longest_source}
 use Rattle.core_program.specs.Core.{Program}
 use Rattle.edge.specs.Said.{Exactly, IsTroubleStatus}
-use Rattle.edge.proofs.Statuses.{yield_range}
 use Rattle.sources.specs.declared.refusal.Ending.{Ending}
 use Rattle.sources.specs.declared.refusal.Ending.TheVariants.{Done, Refused, Inadmissible, NoSchedule, Stopped, Open, BookRefused, NothingToBlame, BlameRefused, LevelsRefused, CallTooDeep}
 use Rattle.sources.specs.Checking.{IsWellFormedSource}
 use Rattle.sources.specs.Facts.{IsNotWellFormed}
 use Rattle.sources.specs.Refusals.{code_of}
 use Rattle.sources.proofs.Apart.{no_source_is_none, no_source_ends, same_core}
+use Rattle.sources.proofs.Exact.{exactly, never, yields_other}
 use Rattle.syntax.specs.Trees.{ProgramTree}
 use Rattle.explain_commands.specs.declared.words.Order.{Order}
 use Rattle.explain_commands.specs.Answers.{ExplainAnswer, no_source, judged}
@@ -60,13 +60,6 @@ low_code order file BlameRefused f = absurd f
 low_code order file LevelsRefused f = absurd f
 low_code order file CallTooDeep f = absurd f
 
--- a status that isn't the one of a fact that can't hold beside
-never : (result status : ℕ) (fact : Type 0) → (result ≡ status → ⊥) → (fact → ⊥) → Exactly result status fact
-never result status fact other not = record { only = λ e. absurd (other e); all = λ f. absurd (not f) }
-
-exactly : (status : ℕ) (fact : Type 0) → fact → Exactly status status fact
-exactly status fact f = record { only = λ e. f; all = λ g. inl refl }
-
 over_or_within : (n : ℕ) → longest_source < n → n ≤ longest_source → ⊥
 over_or_within n over within = omega (arith, over, within)
 
@@ -110,9 +103,6 @@ exact_answer order name file _ _ (too_large over) = record {
   accepted = never 10 0 _ (λ e. omega (arith, e)) (λ g. over_or_within (length file) over g.0);
 }
 exact_answer order name file _ _ (ended ending text within answer) = exact_ending file within order ending (caused order name file ending text answer)
-
-yields_other : (result status : ℕ) (fact : Type 0) → IsTroubleStatus result → ((6 ≤ status) × (status ≤ 8) → ⊥) → Exactly result status fact
-yields_other result status fact y out = record { only = λ e. absurd (out (subst (λ n. (6 ≤ n) × (n ≤ 8)) e (yield_range result y))); all = λ f. inr y }
 
 pub exact_yield : (order : Order) (file : List ℕ) (result : ℕ) → IsTroubleStatus result → IsExactStatusOfFile order file result
 exact_yield order file result y = record {

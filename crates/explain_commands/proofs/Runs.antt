@@ -8,6 +8,7 @@ use Rattle.edge.specs.Lines.{cannot_read_line, too_large_line}
 use Rattle.edge.specs.Said.{SaysText, IsTroubleStatus}
 use Rattle.sources.specs.Refusals.{code_of}
 use Rattle.sources.specs.Files.{HasSameFaults, IsUnread, IsOver, WritesText, WritesFrontOf}
+use Rattle.sources.proofs.Exact.{told_fact, told_is}
 use Rattle.explain_commands.specs.declared.words.Order.{Order}
 use Rattle.explain_commands.specs.Outcomes.{AreOutcomes, IsExplainOutcome, unread, over, read, no_file, one_file}
 use Rattle.explain_commands.specs.Words.{AsksFor, AsksForAll}
@@ -15,13 +16,6 @@ use Rattle.explain_commands.specs.Written.{AreAnswers, AreCalm, AreTold, IsTextO
 use Rattle.explain_commands.proofs.Endings.{caused, low_code, exact_answer, exact_yield}
 use Rattle.explain_commands.proofs.Several.{all_calm_or_six, all_told, alone, of_one, one_row}
 use Rattle.explain_commands.proofs.Worst.{one_of_two}
-
--- what is told of a file that is told
-told_is : (o : Option (List ℕ)) (file bytes : List ℕ) → o ≡ Some file → IfSome o (λ its. bytes ≡ its) → bytes ≡ file
-told_is o file bytes is its = subst (λ x. IfSome x (λ i. bytes ≡ i)) is its
-
-told_over : (o : Option (List ℕ)) (file : List ℕ) → o ≡ Some file → IfSome o (λ its. longest_source < length its) → longest_source < length file
-told_over o file is its = subst (λ x. IfSome x (λ i. longest_source < length i)) is its
 
 -- some bytes that are too many, and those that are told where the folder tells them
 record HasOver (told : Option (List ℕ)) : Type 0 where
@@ -85,7 +79,7 @@ module _ (told : List ℕ → Option (List ℕ)) (before now : List ℕ → ℕ)
   to_told : (file : List ℕ) → told name ≡ Some file → (status : ℕ) (text : List ℕ) → IsExplainOutcome order name told before now status text
       → (IsUnread told before now name × (status ≡ 6) × (text ≡ cannot_read_line name)) ⊎ BelongsToFile order name file status text
   to_told file is _ _ (unread gone) = inl (gone, refl, refl)
-  to_told file is _ _ (over large) = inr (too_large (told_over (told name) file is large.over))
+  to_told file is _ _ (over large) = inr (too_large (told_fact (λ its. longest_source < length its) (told name) file is large.over))
   to_told file is _ _ (read bytes ending text has answer) =
       let same = told_is (told name) file bytes is has.its in
       inr (subst (λ b. BelongsToFile order name b (code_of ending) text) same (ended ending text has.within answer))

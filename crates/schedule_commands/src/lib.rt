@@ -14,4 +14,4 @@ pub use opening::serialise_open;
 pub use replaying::replay_calls;
 pub use running::run_schedule;
 pub use schedules::schedule_of;
-pub use serialising::{order_of, serialise};
+pub use serialising::{order_of, refuse_open, serialise, with_comments};

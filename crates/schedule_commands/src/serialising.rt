@@ -46,7 +46,7 @@ fn refuse_end(alloc: Global, end: SerialEnd) -> Refusal
 }
 
 /// The refusal of a schedule at whose end this is the least thread inside an atomic call.
-fn refuse_open(alloc: Global, thread: u32) -> Refusal
+pub fn refuse_open(alloc: Global, thread: u32) -> Refusal
     ensures { Tells Ending.Open (inside_call_line thread) result }
 {
     match open_text(alloc, thread) {
@@ -77,7 +77,7 @@ pub fn order_of<'p>(
 }
 
 /// A schedule in a line, and a text behind it as comments.
-fn with_comments(alloc: Global, schedule: &[u32], comment: &[u8]) -> Result<Vec<u8>, NoMemory>
+pub fn with_comments(alloc: Global, schedule: &[u32], comment: &[u8]) -> Result<Vec<u8>, NoMemory>
     ensures text { IfOk result (λ out. out.items ≡ written schedule.now ++ commented comment.now) }
     ensures spells { IfOk result (λ out. length schedule.now ≤ 200000 → IsSchedule out.items schedule.now) }
 {

@@ -5,5 +5,6 @@ pub mod Told
 pub mod Trees
 pub mod Refusing
 pub mod Verdicts
+pub mod Exact
 -- Refusals and answers of the commands on a source.
 pub mod SourceRows

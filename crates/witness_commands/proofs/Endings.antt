@@ -14,6 +14,7 @@ use Rattle.sources.specs.declared.refusal.Ending.{Ending}
 use Rattle.sources.specs.Facts.{IsNotWellFormed}
 use Rattle.sources.specs.Refusals.{code_of}
 use Rattle.sources.proofs.Apart.{no_source_is_none, no_source_ends}
+use Rattle.sources.proofs.Exact.{exactly, never, yields_other}
 use Rattle.semantics.specs.Run.{Runs, open_thread}
 use Rattle.schedule_commands.specs.Schedules.{NoOrder, no_run, open_call, HasInput, IsWellFormedText, IsNoSchedule, LeavesCallOpen, EndsOutside}
 use Rattle.schedule_commands.proofs.ScheduleEndings.{runs_to, inputs_apart, no_source_input, no_schedule_input, refused_text, refused_run}
@@ -66,12 +67,6 @@ kept_or_witness P s k w =
     w.broken (subst (IsKeptAs P (IsLike SameObjects) s) state k.2)
 
 -- Statuses and facts.
-
-pub never : (result status : ℕ) (fact : Type 0) → (result ≡ status → ⊥) → (fact → ⊥) → Exactly result status fact
-never result status fact other not = record { only = λ e. absurd (other e); all = λ f. absurd (not f) }
-
-pub exactly : (status : ℕ) (fact : Type 0) → fact → Exactly status status fact
-exactly status fact f = record { only = λ e. f; all = λ g. inl refl }
 
 pub undone : (result status : ℕ) (fact : Type 0) → (result ≡ status → ⊥) → (fact → ⊥) → Decides result status fact
 undone result status fact other not = record { only = λ e. absurd (other e); all = λ f. absurd (not f) }
@@ -261,9 +256,6 @@ exact_over file text over = record {
   broken = undone 10 2 _ (λ e. omega (arith, e)) (λ g. both_over file text over g.0);
   undecided = λ e. absurd (omega (arith, e));
 }
-
-pub yields_other : (result status : ℕ) (fact : Type 0) → IsTroubleStatus result → ((6 ≤ status) × (status ≤ 8) → ⊥) → Exactly result status fact
-yields_other result status fact y out = record { only = λ e. absurd (out (subst (λ n. (6 ≤ n) × (n ≤ 8)) e (yield_range result y))); all = λ f. inr y }
 
 pub yields_undone : (result status : ℕ) (fact : Type 0) → IsTroubleStatus result → ((6 ≤ status) × (status ≤ 8) → ⊥) → Decides result status fact
 yields_undone result status fact y out = record { only = λ e. absurd (out (subst (λ n. (6 ≤ n) × (n ≤ 8)) e (yield_range result y))); all = λ f. inr (inr y) }

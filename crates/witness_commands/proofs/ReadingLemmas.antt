@@ -48,11 +48,6 @@ module _ (told : List ℕ → Option (List ℕ)) (before now : List ℕ → ℕ)
   schedule_ends name named within end status line e says =
       line_of longest_second_file name end status line e (λ is. schedule_unread name named within is) (λ is. schedule_over name named within is) says
 
--- what is told of a file that was read is within the limit
-pub told_within : (o : Option (List ℕ)) (bytes : List ℕ) (limit : ℕ) → IfSome o (λ file. bytes ≡ file) → length bytes ≤ limit → IfSome o (λ file. length file ≤ limit)
-told_within None bytes limit is within = tt
-told_within (Some file) bytes limit is within = subst (λ b. length b ≤ limit) is within
-
 -- both files were read
 pub both_read : (told after : List ℕ → Option (List ℕ)) (before mid now : List ℕ → ℕ) (source schedule file text : List ℕ) → ((other : List ℕ) → after other ≡ told other) → HasSameFaults before mid → HasSameFaults mid now
     → AreBytesOf told source file → AreBytesOf after schedule text → length file ≤ longest_source → length text ≤ longest_second_file → AreInputsRead told before now source (Some schedule) file (Some text)

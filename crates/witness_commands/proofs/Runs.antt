@@ -6,6 +6,7 @@ use Rattle.std.specs.Io.KnownBytes.{Appends}
 use Rattle.lexer.specs.Limits.{longest_source}
 use Rattle.sources.specs.Limits.{longest_second_file}
 use Rattle.sources.specs.Files.{HasSameFaults, WritesText, WritesFrontOf}
+use Rattle.sources.proofs.Exact.{told_fact, told_is}
 use Rattle.edge.specs.Faults.{Rose}
 use Rattle.edge.specs.Lines.{cannot_read_line, too_large_line}
 use Rattle.edge.specs.Said.{SaysText, IsTroubleStatus}
@@ -25,13 +26,6 @@ one_row words source (Some schedule) its (Some other) a b = let e : source ∷ s
 one_row words source (Some schedule) its None a b = let e : source ∷ schedule ∷ [] ≡ its ∷ [] = sym a ∙ b in absurd cc
 one_row words source None its (Some other) a b = let e : source ∷ [] ≡ its ∷ other ∷ [] = sym a ∙ b in absurd cc
 one_row words source None its None a b = let e : source ∷ [] ≡ its ∷ [] = sym a ∙ b in record { source_is = cc; schedule_is = refl }
-
--- what is told of a file that is told
-told_is : (o : Option (List ℕ)) (file bytes : List ℕ) → o ≡ Some file → IfSome o (λ its. bytes ≡ its) → bytes ≡ file
-told_is o file bytes is its = subst (λ x. IfSome x (λ i. bytes ≡ i)) is its
-
-told_fact : (F : List ℕ → Type 0) (o : Option (List ℕ)) (file : List ℕ) → o ≡ Some file → IfSome o F → F file
-told_fact F o file is its = subst (λ x. IfSome x F) is its
 
 -- some bytes for which a fact holds, and those that are told where the folder tells them
 record HasBytes (o : Option (List ℕ)) (F : List ℕ → Type 0) : Type 0 where

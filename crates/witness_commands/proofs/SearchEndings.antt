@@ -11,10 +11,11 @@ use Rattle.sources.specs.Checking.{NoSource}
 use Rattle.sources.specs.Facts.{IsNotWellFormed}
 use Rattle.sources.specs.Refusals.{code_of}
 use Rattle.sources.proofs.Apart.{no_source_is_none, no_source_ends}
+use Rattle.sources.proofs.Exact.{exactly, never, yields_other}
 use Rattle.witness_commands.specs.Answers.{AnswersSearch, no_program, found, nothing, WitnessAnswer, HasWitness}
 use Rattle.witness_commands.specs.Reading.{AreInputsWithin}
 use Rattle.witness_commands.specs.Written.{BelongsToFiles, source_large, schedule_large, answered, IsExactSearch, IsExact}
-use Rattle.witness_commands.proofs.Endings.{witness_of, never, exactly, undone, decided, open_end, exact_over, exact_answered, verdict_between, verdict_yield, yields_other, yields_undone}
+use Rattle.witness_commands.proofs.Endings.{witness_of, undone, decided, open_end, exact_over, exact_answered, verdict_between, verdict_yield, yields_undone}
 
 witness_text_source : (file : List ℕ) → HasWitness file → IsWellFormedText file
 witness_text_source file w = (w.0, w.1, w.3)

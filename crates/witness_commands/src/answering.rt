@@ -10,15 +10,15 @@ ghost use Rattle.witness.specs.Verdicts.{IsVerdict, IsNoVerdict};
 ghost use Rattle.schedule_commands.specs.Schedules.{NoOrder};
 ghost use Rattle.sources.specs.Checking.{IsSourceOf};
 ghost use Rattle.sources.specs.Refusals.{IsRight, Tells};
-ghost use Rattle.report.specs.Schedules.{stopped_line, inside_call_line};
+ghost use Rattle.report.specs.Schedules.{stopped_line};
 ghost use Rattle.witness_commands.specs.Answers.{IsSaid, RefusesInput, AnswersSchedule, most_states};
 
 use crate::lines::{broken_line, undecided_line};
 use compile::compile;
 use machine::Stopped;
-use report::{open_text, stopped_text};
+use report::stopped_text;
 use schedule::write_schedule;
-use schedule_commands::schedule_of;
+use schedule_commands::{refuse_open, schedule_of};
 use sources::{Ending, Refusal, Source, read_source};
 use std::alloc::{AllocError as NoMemory, Global};
 use std::mem::forget;
@@ -41,16 +41,6 @@ fn refuse_stop(alloc: Global, stopped: &Stopped) -> Refusal
 {
     match stopped_text(alloc, stopped) {
         Ok(line) => Refusal::Line(Ending::Stopped, line),
-        Err(NoMemory) => Refusal::NoMemory,
-    }
-}
-
-/// The refusal of a schedule at whose end this is the least thread inside an atomic call.
-fn refuse_open(alloc: Global, thread: u32) -> Refusal
-    ensures { Tells Ending.Open (inside_call_line thread) result }
-{
-    match open_text(alloc, thread) {
-        Ok(line) => Refusal::Line(Ending::Open, line),
         Err(NoMemory) => Refusal::NoMemory,
     }
 }

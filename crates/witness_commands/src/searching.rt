@@ -1,10 +1,7 @@
 //! What is answered to the bytes of a source alone.
 
-ghost use Rattle.std.specs.Prelude.{◌≡◌, ◌≤◌, ◌++◌, ℕ, List, length, IfOk, MatchResult};
+ghost use Rattle.std.specs.Prelude.{◌≤◌, ℕ, List, length, IfOk, MatchResult};
 ghost use Rattle.lexer.specs.Limits.{longest_source};
-ghost use Rattle.schedule.specs.Comments.{commented};
-ghost use Rattle.schedule.specs.Text.{IsSchedule};
-ghost use Rattle.schedule.specs.Written.{written};
 ghost use Rattle.sources.specs.Checking.{IsSourceOf, NoSource};
 ghost use Rattle.sources.specs.Refusals.{IsRight};
 ghost use Rattle.witness_commands.specs.Answers.{IsSoughtSaid, AnswersSearch};
@@ -13,29 +10,18 @@ ghost use Rattle.witness.specs.declared.seeking.Sought.TheVariants as answers;
 use crate::answering::Said;
 use crate::lines::{broken_line, none_found_line};
 use compile::compile;
-use schedule::{add_comments, comment_laws, write_schedule};
+use schedule_commands::with_comments;
 use sources::{Refusal, Source, read_source};
 use std::alloc::{AllocError as NoMemory, Global};
 use std::mem::forget;
 use witness::{Found, Sought, seek, witness_laws};
-
-/// A schedule in a line, and a text behind it as comments.
-fn with_comment(alloc: Global, schedule: &[u32], comment: &[u8]) -> Result<Vec<u8>, NoMemory>
-    ensures text { IfOk result (λ out. out.items ≡ written schedule.now ++ commented comment.now) }
-    ensures spells { IfOk result (λ out. length schedule.now ≤ 200000 → IsSchedule out.items schedule.now) }
-{
-    let mut text = write_schedule(alloc, schedule)?.into_bytes();
-    add_comments(&mut text, comment)?;
-    comment_laws();
-    Ok(text)
-}
 
 /// The status and the text for a witness.
 fn found_answer(alloc: Global, found: &Found) -> Result<Said, NoMemory>
     ensures { IfOk result (λ said. IsSoughtSaid (answers.Witness found.now) said.status said.text.items) }
 {
     let line = broken_line(alloc, found.sense)?;
-    let text = with_comment(alloc, found.schedule.as_slice(), line.as_bytes())?;
+    let text = with_comments(alloc, found.schedule.as_slice(), line.as_bytes())?;
     Ok(Said { status: 2, text })
 }
 

@@ -5,7 +5,8 @@ use Rattle.lexer.specs.Limits.{longest_source}
 use Rattle.sources.specs.Limits.{longest_second_file}
 use Rattle.witness_commands.specs.Answers.{AnswersSchedule}
 use Rattle.witness_commands.specs.Outcomes.{IsWitnessOutcome, IsUnreadLine, read}
-use Rattle.witness_commands.proofs.ReadingLemmas.{earlier, source_ends, schedule_ends, told_within, both_read}
+use Rattle.witness_commands.proofs.ReadingLemmas.{earlier, source_ends, schedule_ends, both_read}
+use Rattle.sources.proofs.Exact.{told_within}
 use Rattle.witness_commands.proofs.program.judge.Goals as goal
 
 pub returns-in-Err : goal.returns-in-Err
