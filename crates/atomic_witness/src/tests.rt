@@ -35,8 +35,9 @@ static ASKED: [(&[&str], u8, &str); 4] = [
     (&["b"], 6, "cannot read b\n"),
 ];
 
-/// Sources, each with what is found in it: the race; two workers that take a lock; what is no source.
-static SOUGHT: [(&str, u8, &str); 3] = [
+/// Sources, each with what is found in it: the race; two workers that take a lock; the race in a loop, whose steps outside of the
+/// calls nobody else sees, and aren't mixed; what is no source.
+static SOUGHT: [(&str, u8, &str); 4] = [
     (
         RACE,
         2,
@@ -46,6 +47,11 @@ static SOUGHT: [(&str, u8, &str); 3] = [
         "class Cell { int v guarded_by this; atomic void add() { synchronized (this) { this.v = this.v + 1; } } } class Worker implements Runnable { final Cell cell; Worker(Cell cell) { this.cell = cell; } public void run() { this.cell.add(); } } class Main { void main() { final Cell cell = new Cell(); new Thread(new Worker(cell)).start(); new Thread(new Worker(cell)).start(); } }",
         16,
         "no witness found: 50 schedules were tried\n",
+    ),
+    (
+        "class Cell { int v; atomic void add() { this.v = this.v + 1; } } class Worker implements Runnable { final Cell cell; Worker(Cell cell) { this.cell = cell; } public void run() { int i = 0; while (i < 12) { this.cell.add(); i = i + 1; } } } class Main { void main() { final Cell cell = new Cell(); new Thread(new Worker(cell)).start(); new Thread(new Worker(cell)).start(); } }",
+        2,
+        "0*10 1*13 2*224 1*211\n# broken: no order of its entries that interrupts no atomic call leaves this\n",
     ),
     ("class", 1, "refused at 1:6: unexpected\n"),
 ];

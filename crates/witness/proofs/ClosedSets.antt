@@ -11,7 +11,7 @@ use Rattle.witness.proofs.WalkLemmas.{begins, uninterrupted_walks}
 
 -- One entry of a list fewer.
 
-first_counted : (t : ℕ) (r : List ℕ) → nat_lt 0 (entry_counts (t ∷ r) t) ≡ true
+pub first_counted : (t : ℕ) (r : List ℕ) → nat_lt 0 (entry_counts (t ∷ r) t) ≡ true
 first_counted t r = grind (arith, nat_tests, common_steps)
 
 less_counts_at : (t : ℕ) (r : List ℕ) (v : ℕ) → less (entry_counts (t ∷ r)) t v ≡ entry_counts r v
@@ -28,7 +28,7 @@ none_less : (b : Bool) → (if b then 0 - 1 else 0) ≡ zero
 none_less true = refl
 none_less false = refl
 
-less_none : (t : ℕ) → less none_left t ≡ none_left
+pub less_none : (t : ℕ) → less none_left t ≡ none_left
 less_none t = λ i v. none_less (t == v) i
 
 module _ (P : Program) (Node : State → Option ℕ → (ℕ → ℕ) → Type 0) (Bad : State → Type 0) where
@@ -51,7 +51,7 @@ module _ (P : Program) (Node : State → Option ℕ → (ℕ → ℕ) → Type 0
       (subst (Node b.next (must_step_next P b.next t)) (less_none t) (closed.goes q busy none_left t b.next node refl b.may b.steps)) b.rest bad
 
 -- lists with equally many of each have the same counts
-same_counts : (s r : List ℕ) → ((t : ℕ) → count_by (λ u. u == t) s ≡ count_by (λ u. u == t) r) → entry_counts s ≡ entry_counts r
+pub same_counts : (s r : List ℕ) → ((t : ℕ) → count_by (λ u. u == t) s ≡ count_by (λ u. u == t) r) → entry_counts s ≡ entry_counts r
 same_counts s r each = λ i t. each t i
 
 module _ (P : Program) (Like : State → State → Type 0) (Node : State → Option ℕ → (ℕ → ℕ) → Type 0) where

@@ -1,6 +1,6 @@
 -- Nodes, and what steps of theirs lead to.
 use Rattle.std.proofs.Common.{◌≡◌, ◌≢◌, ℕ, ◌+◌, ◌-◌, ◌<◌, ◌==◌, Bool, true, false, List, [], ◌∷◌, ◌++◌, refl, sym, ap, subst, ◌∙◌, arith, append_assoc}
-use Rattle.std.specs.Prelude.{Option, Some, None, Ok, Err, nat_lt, not, ◌||◌, slice_get, if◌then◌else◌}
+use Rattle.std.specs.Prelude.{Option, Some, None, Ok, Err, nat_lt, not, ◌||◌, if◌then◌else◌}
 use Rattle.std.proofs.lemmas.Bool.{eqb-true}
 use Rattle.std.proofs.lemmas.Bool.Decides.{nat_tests}
 use Rattle.std.proofs.lemmas.Grind.{common_steps}
@@ -23,7 +23,7 @@ use Rattle.witness.specs.declared.node.Node.{Node}
 use Rattle.witness.specs.declared.search.Search.{Search}
 use Rattle.witness.specs.Tables.{count_at}
 use Rattle.witness.specs.Nodes.{left_at, Covers, HasStepped, IsStart, StepsTo, IsChild, IsTwin}
-use Rattle.witness.specs.Searching.{searched, start_left, IsNode, LeadsIn}
+use Rattle.witness.specs.Searching.{searched, start_left, IsNode, InSet, Comes, LeadsIn}
 
 -- Who stands inside an atomic call.
 
@@ -57,7 +57,7 @@ module _ (m copy new : MachineValue) (t : ℕ) (same : copy ≡ m) where
   has_not_stepped why turn other q stands = subst (λ x. step (program_run x) q t ≡ None) same (stuck t why new q (outcome (program_run copy) q t) (turn q (copied q stands)) other)
 
 -- the machines of two programs that are the same stand for the same
-stands_too : (m n : MachineValue) (q : State) → m.program ≡ n.program → m.code ≡ n.code → code_state m.state ≡ code_state n.state → StandsFor n q → StandsFor m q
+pub stands_too : (m n : MachineValue) (q : State) → m.program ≡ n.program → m.code ≡ n.code → code_state m.state ≡ code_state n.state → StandsFor n q → StandsFor m q
 stands_too m n q programs codes states h = subst (λ X. X) (λ j. StateStands (program_of (sym programs j)) ((sym codes j).code.items) (sym states j) q) h
 
 -- Twins are the nodes for the same.
@@ -141,7 +141,7 @@ module _ (s : Search) (n next : Node) (t : ℕ) (node : IsNode s n) (to : StepsT
   leads_made = ap (λ m. m.made) to.behind.machine ∙ to.made
 
   -- each step of the thread leads to the node
-  pub leads_in : (nodes : List Node) → ((q : State) (busy : Option ℕ) (left : ℕ → ℕ) → Covers next q busy left → (k : ℕ) × (m : Node) × (slice_get nodes k ≡ Some m) × Covers m q busy left) → LeadsIn s nodes n t
+  pub leads_in : (nodes : List Node) → ((q : State) (busy : Option ℕ) (left : ℕ → ℕ) → Covers next q busy left → Comes s (InSet nodes) q busy left) → LeadsIn s nodes n t
   leads_in nodes within q busy left r h allowed may steps = within r (must_step_next P r t) (less left t) (leads_covers q busy left r h steps)
 
 -- where there is no child no step leads anywhere

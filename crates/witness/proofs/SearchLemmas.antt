@@ -16,8 +16,10 @@ use Rattle.semantics.specs.Step.{step, state_after, turn, seen_by}
 use Rattle.compile.specs.declared.stack.Code.{Code}
 use Rattle.machine.specs.Likeness.{ThreadsStand, no_threads, more_threads}
 use Rattle.machine.specs.Standing.{program_run}
-use Rattle.witness.specs.Walks.{walk, must_step_next, entry_counts, less, IsClosedSet}
-use Rattle.witness.proofs.ClosedSets.{none_kept, none_reached}
+use Rattle.witness.specs.Walks.{walk, must_step_next, entry_counts, less, none_left}
+use Rattle.witness.proofs.UnseenWalks.{none_kept_up_to, none_reached_up_to}
+use Rattle.witness.proofs.PassedLemmas.{comes_then, sought_shared}
+use Rattle.witness.specs.Unseen.{is_there, IsClosedUpTo}
 use Rattle.witness.proofs.WalkLemmas.{walk_runs, walk_uninterrupted}
 use Rattle.witness.specs.declared.judge.Judged.{Judged}
 use Rattle.witness.specs.declared.judge.Judged.TheVariants as answer
@@ -25,8 +27,8 @@ use Rattle.witness.specs.declared.node.Node.{Node}
 use Rattle.witness.specs.declared.search.Search.{Search}
 use Rattle.witness.specs.Judging.{AreLike, IsGoal, IsJudged, IsJudgedWhole}
 use Rattle.witness.specs.Nodes.{left_at, Covers, IsStart, IsTwin, IsChild}
-use Rattle.witness.specs.Searching.{searched, start_left, IsNode, AreNodes, InSet, Extends, LeadsIn, IsNodeAdded, IsFollowed, IsExpanded, IsFound}
-use Rattle.witness.proofs.NodeLemmas.{twin_covers, leads_node, leads_made, leads_in, no_child, start_node, start_covers}
+use Rattle.witness.specs.Searching.{searched, start_left, IsNode, AreNodes, InSet, Extends, IsEndSought, IsPassed, LeadsIn, IsNodeAdded, IsNodeReached, IsFollowed, IsExpanded, IsFound}
+use Rattle.witness.proofs.NodeLemmas.{twin_covers, leads_node, leads_in, no_child, start_node, start_covers}
 
 pub same_extends : (nodes : List Node) → Extends nodes nodes
 same_extends nodes k n there = there
@@ -38,7 +40,8 @@ pub in_more : (old new : List Node) → Extends old new → (q : State) (busy : 
 in_more old new extends q busy left within = (within.0, within.1, extends within.0 within.1 within.2, within.3)
 
 pub leads_more : (s : Search) (old new : List Node) (n : Node) (t : ℕ) → Extends old new → LeadsIn s old n t → LeadsIn s new n t
-leads_more s old new n t extends leads q busy left next h allowed may steps = in_more old new extends next (must_step_next (searched s) next t) (less left t) (leads q busy left next h allowed may steps)
+leads_more s old new n t extends leads q busy left next h allowed may steps =
+    comes_then s (InSet old) (InSet new) (λ p b l there. is_there p b l (in_more old new extends p b l there)) next (must_step_next (searched s) next t) (less left t) (leads q busy left next h allowed may steps)
 
 -- A node is added.
 
@@ -59,21 +62,29 @@ last_is : (n m : Node) (j : ℕ) → slice_get (n ∷ []) j ≡ Some m → (n �
 last_is n m zero there = (same_Some n m there, refl)
 last_is n m (suc j) there = absurd cc
 
-pub one_more : (s : Search) (nodes : List Node) (n : Node) → AreNodes s nodes → IsNode s n → n.machine.made ≤ length nodes → AreNodes s (nodes ++ n ∷ [])
+pub one_more : (s : Search) (nodes : List Node) (n : Node) → AreNodes s nodes → IsNode s n → n.machine.made < 4294967295 → AreNodes s (nodes ++ n ∷ [])
 one_more s nodes n are node few = record {
   each = λ k m there. elim (at_either nodes (n ∷ []) k m there) [ inl h ↦ are.each k m h | inr h ↦ subst (IsNode s) (last_is n m h.0 h.2).0 node ];
   few = λ k m there. elim (at_either nodes (n ∷ []) k m there) [
     | inl h ↦ are.few k m h
-    | inr h ↦ subst (λ (x : Node). x.machine.made ≤ k) (last_is n m h.0 h.2).0 (omega (arith, few, h.1))
+    | inr h ↦ subst (λ (x : Node). x.machine.made < 4294967295) (last_is n m h.0 h.2).0 few
   ];
 }
 
-pub new_added : (s : Search) (nodes new : List Node) (n : Node) (room : Bool) → new ≡ nodes ++ n ∷ [] → AreNodes s nodes → IsNode s n → n.machine.made ≤ length nodes → IsNodeAdded s nodes new n room
+pub new_added : (s : Search) (nodes new : List Node) (n : Node) (room : Bool) → new ≡ nodes ++ n ∷ [] → AreNodes s nodes → IsNode s n → n.machine.made < 4294967295 → IsNodeAdded s nodes new n room
 new_added s nodes new n room is are node few = subst (λ xs. IsNodeAdded s nodes xs n room) (sym is) (record {
   nodes = one_more s nodes n are node few;
   extends = λ k m there. at_left nodes (n ∷ []) k m there;
   within = λ room_is q busy left h. (length nodes, n, get_last nodes n, h);
 })
+
+-- what the search came to was added
+pub reached_added : (s : Search) (old new : List Node) (n m : Node) (room : Bool) → IsPassed s n m → IsNodeAdded s old new m room → IsNodeReached s old new n room
+reached_added s old new n m room passed added = record {
+  nodes = added.nodes;
+  extends = added.extends;
+  within = λ is q busy left h. comes_then s (Covers m) (InSet new) (λ p b l c. is_there p b l (added.within is p b l c)) q busy left (passed.comes q busy left h);
+}
 
 -- the first node, at the start
 pub first_nodes : (s : Search) (nodes old : List Node) (n : Node) → old ≡ [] → nodes ≡ old ++ n ∷ [] → IsStart s.program.now s.code.now s.left.now n → AreNodes s nodes
@@ -114,14 +125,7 @@ module _ (s : Search) (nodes : List Node) (n : Node) (place t : ℕ) (here : sli
   pub child_node : (next : Node) → IsChild s.counted n t (Some next) → IsNode s next
   child_node next child = leads_node s n next t (are.each place n here) child.2 child.0 child.1
 
-  pub child_few : (next : Node) → IsChild s.counted n t (Some next) → next.machine.made ≤ length nodes
-  child_few next child =
-      let made = leads_made s n next t (are.each place n here) child.2 in
-      let few = are.few place n here in
-      let within = slice_get_within nodes place n here in
-      omega (arith, made, few, within)
-
-  pub child_followed : (new : List Node) (next : Node) (room : Bool) → IsChild s.counted n t (Some next) → IsNodeAdded s nodes new next room → IsFollowed s nodes new place t room
+  pub child_followed : (new : List Node) (next : Node) (room : Bool) → IsChild s.counted n t (Some next) → IsNodeReached s nodes new next room → IsFollowed s nodes new place t room
   child_followed new next room child added = record {
     nodes = added.nodes;
     extends = added.extends;
@@ -141,29 +145,29 @@ module _ (s : Search) (nodes : List Node) (n : Node) (place t : ℕ) (here : sli
 
 -- What is found.
 
+-- no node without entries left has an end like this
+abbrev pub IsNoEnd : Search → State → Node → Type 0
+IsNoEnd s q n = (e : State) → Covers n e n.busy (left_at n) → AreLike s.goal.by q e → ((t : ℕ) → left_at n t ≡ 0) → ⊥
+
 module _ (s : Search) (q : State) where
   abbrev Like : State → State → Type 0
   Like = AreLike s.goal.by
 
-  -- no node without entries left has an end like this
-  abbrev pub IsNoEnd : Node → Type 0
-  IsNoEnd n = (e : State) → Covers n e n.busy (left_at n) → Like q e → ((t : ℕ) → left_at n t ≡ 0) → ⊥
-
-  closed_set : (nodes : List Node) → ((k : ℕ) (n : Node) (t : ℕ) → slice_get nodes k ≡ Some n → LeadsIn s nodes n t) → ((k : ℕ) (n : Node) → slice_get nodes k ≡ Some n → IsNoEnd n)
-      → IsClosedSet (searched s) s.counted (InSet nodes) (Like q)
+  closed_set : (nodes : List Node) → ((k : ℕ) (n : Node) (t : ℕ) → slice_get nodes k ≡ Some n → LeadsIn s nodes n t) → ((p : State) → IsGoal s.goal p → (k : ℕ) (n : Node) → slice_get nodes k ≡ Some n → IsNoEnd s p n)
+      → IsClosedUpTo (searched s) s.counted (IsEndSought s) (InSet nodes)
   closed_set nodes leads ends = record {
     goes = λ p busy left t next within allowed may steps. leads within.0 within.1 t within.2 p busy left next within.3 allowed may steps;
-    good = λ p busy left within zeros bad. ends within.0 within.1 within.2 p (record { stands = within.3.stands; waits = refl; counts = refl }) bad (λ t. ap (λ f. f t) within.3.counts ∙ zeros t);
+    good = λ p busy left within zeros bad. ends bad.0 bad.1 within.0 within.1 within.2 p (record { stands = within.3.stands; waits = refl; counts = refl }) bad.2 (λ t. ap (λ (f : ℕ → ℕ). f t) within.3.counts ∙ zeros t);
   }
 
-  pub broken_found : (nodes : List Node) → InSet nodes (initial (searched s)) None (start_left s)
-      → ((k : ℕ) (n : Node) (t : ℕ) → slice_get nodes k ≡ Some n → LeadsIn s nodes n t) → ((k : ℕ) (n : Node) → slice_get nodes k ≡ Some n → IsNoEnd n)
+  pub broken_found : (nodes : List Node) → IsGoal s.goal q → InSet nodes (initial (searched s)) None (start_left s)
+      → ((k : ℕ) (n : Node) (t : ℕ) → slice_get nodes k ≡ Some n → LeadsIn s nodes n t) → ((p : State) → IsGoal s.goal p → (k : ℕ) (n : Node) → slice_get nodes k ≡ Some n → IsNoEnd s p n)
       → IsFound s q answer.Broken
-  broken_found nodes start leads ends = (
-    λ counted r same. none_kept (searched s) Like (InSet nodes) r q (subst (λ b. IsClosedSet (searched s) b (InSet nodes) (Like q)) counted (closed_set nodes leads ends))
-        (subst (InSet nodes (initial (searched s)) None) (sym same) start),
-    λ whole none. none_reached (searched s) Like (InSet nodes) q (subst (λ b. IsClosedSet (searched s) b (InSet nodes) (Like q)) whole (closed_set nodes leads ends))
-        (subst (InSet nodes (initial (searched s)) None) none start),
+  broken_found nodes goal start leads ends = (
+    λ counted r same. none_kept_up_to (searched s) Like (IsEndSought s) (InSet nodes) r q (λ e like. (q, goal, like)) (subst (λ b. IsClosedUpTo (searched s) b (IsEndSought s) (InSet nodes)) counted (closed_set nodes leads ends))
+        (is_there (initial (searched s)) None (entry_counts r) (subst (InSet nodes (initial (searched s)) None) (sym same) start)),
+    λ whole none. none_reached_up_to (searched s) Like (IsEndSought s) (InSet nodes) q (λ e like. (q, goal, like)) (sought_shared s) (subst (λ b. IsClosedUpTo (searched s) b (IsEndSought s) (InSet nodes)) whole (closed_set nodes leads ends))
+        (is_there (initial (searched s)) None none_left (subst (InSet nodes (initial (searched s)) None) none start)),
   )
 
   pub kept_found : (n : Node) (r : Vec ℕ Global) → r.items ≡ n.path.items → IsNode s n → ((e : State) → Covers n e n.busy (left_at n) → Like q e) → ((t : ℕ) → left_at n t ≡ 0) → IsFound s q (answer.Kept r)
@@ -275,9 +279,9 @@ module _ (s : Search) (old new : List Node) (place : ℕ) (within : place < leng
 
 pub explored_all : (s : Search) (nodes : List Node) (place : ℕ) → Explored s nodes place → length nodes ≤ place → (q : State) → IsGoal s.goal q → IsFound s q answer.Broken
 explored_all s nodes place h all q goal =
-    broken_found s q nodes h.start
+    broken_found s q nodes goal h.start
     (λ k n t there. h.leads k n t (let less = slice_get_within nodes k n there in omega (arith, less, all)) there)
-    (λ k n there. h.ends q goal k n (let less = slice_get_within nodes k n there in omega (arith, less, all)) there)
+    (λ p is k n there. h.ends p is k n (let less = slice_get_within nodes k n there in omega (arith, less, all)) there)
 
 -- The threads whose steps from a node lead into the set.
 pub record Followed (s : Search) (old new : List Node) (place count : ℕ) : Type 0 where

@@ -5,6 +5,8 @@ pub mod Witness
 pub mod Tables
 pub mod Judging
 pub mod Nodes
+-- Steps that nobody else sees, and where the search goes on alone.
+pub mod Unseen
 pub mod Searching
 pub mod Verdicts
 -- What the search for a witness answers.

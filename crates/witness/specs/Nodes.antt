@@ -1,5 +1,5 @@
 -- Nodes of the search, and sets of them.
-use Rattle.std.specs.Prelude.{◌≡◌, ℕ, ◌+◌, Bool, true, List, [], ◌∷◌, ◌++◌, Option, Some, None}
+use Rattle.std.specs.Prelude.{◌≡◌, ℕ, ◌+◌, Bool, true, false, List, [], ◌∷◌, ◌++◌, Option, Some, None}
 use Rattle.core_program.specs.Core.{Program}
 use Rattle.core_program.specs.declared.program.CoreProgram.{CoreProgram}
 use Rattle.core_program.specs.Views.{program_of}
@@ -7,7 +7,7 @@ use Rattle.compile.specs.declared.stack.CodeTable.{CodeTable}
 use Rattle.state.specs.States.{State, initial}
 use Rattle.semantics.specs.Step.{step}
 use Rattle.machine.specs.MachineValue.{MachineValue, code_state}
-use Rattle.machine.specs.Standing.{program_run, StandsFor}
+use Rattle.machine.specs.Standing.{program_run, StandsFor, IsSame}
 use Rattle.witness.specs.Tables.{count_at}
 use Rattle.witness.specs.Walks.{may_step, must_step_next, less, allows}
 use Rattle.witness.specs.declared.node.Node.{Node}
@@ -57,6 +57,11 @@ pub record StepsTo (n : Node) (t : ℕ) (next : Node) : Type 0 where
 abbrev pub IsChild : Bool → Node → ℕ → Option Node → Type 0
 IsChild counted n t None = allows counted (left_at n) t ≡ true → may_step n.busy t ≡ true → (q : State) → StandsFor n.machine q → step (program_run n.machine) q t ≡ None
 IsChild counted n t (Some next) = (allows counted (left_at n) t ≡ true) × (may_step n.busy t ≡ true) × StepsTo n t next
+
+-- a node after a step of a thread from it; the same node where there was none
+abbrev pub IsAdvanced : Node → ℕ → Node → Bool → Type 0
+IsAdvanced n t next true = StepsTo n t next
+IsAdvanced n t next false = IsSame next.machine n.machine × (next.busy ≡ n.busy) × (next.left.items ≡ n.left.items) × (next.path.items ≡ n.path.items)
 
 -- two nodes are the same, but for the schedules that led there
 pub record IsTwin (n m : Node) : Type 0 where

@@ -1,5 +1,5 @@
 -- The search: what it knows of its nodes, and what it finds.
-use Rattle.std.specs.Prelude.{◌≡◌, ℕ, ◌+◌, ◌≤◌, Bool, true, false, List, ◌++◌, Option, Some, None, slice_get}
+use Rattle.std.specs.Prelude.{◌≡◌, ℕ, ◌+◌, ◌<◌, Bool, true, false, List, ◌++◌, Option, Some, None, slice_get}
 use Rattle.core_program.specs.Core.{Program}
 use Rattle.core_program.specs.Views.{program_of}
 use Rattle.state.specs.States.{State, initial}
@@ -12,8 +12,9 @@ use Rattle.witness.specs.declared.node.Node.{Node}
 use Rattle.witness.specs.declared.search.Search.{Search}
 use Rattle.witness.specs.declared.judge.Judged.{Judged}
 use Rattle.witness.specs.declared.judge.Judged.TheVariants as answer
-use Rattle.witness.specs.Judging.{AreLike}
+use Rattle.witness.specs.Judging.{AreLike, IsGoal}
 use Rattle.witness.specs.Nodes.{left_at, Covers}
+use Rattle.witness.specs.Unseen.{HasUnseenStep, GoesAlone}
 
 -- the program whose schedules are searched
 abbrev pub searched : Search → Program
@@ -22,6 +23,14 @@ searched s = program_of s.program.now
 -- the entries that are left at the start
 abbrev pub start_left : Search → ℕ → ℕ
 start_left s = count_at s.left.now
+
+-- the state is like an end that is looked for
+abbrev pub IsEndSought : Search → State → Type 0
+IsEndSought s e = (q : State) × IsGoal s.goal q × AreLike s.goal.by q e
+
+-- the search goes on alone from here to such a node
+abbrev pub Comes : Search → (State → Option ℕ → (ℕ → ℕ) → Type 0) → State → Option ℕ → (ℕ → ℕ) → Type 0
+Comes s Node = GoesAlone (searched s) s.counted (IsEndSought s) Node
 
 -- What holds of each node: its machine runs the program, its schedule walks to a state that the machine stands for, and what
 -- was left at the start is what the schedule has and what is left.
@@ -33,10 +42,10 @@ pub record IsNode (s : Search) (n : Node) : Type 0 where
   pub came : (more : List ℕ) → walk (searched s) (initial (searched s)) None (n.path.items ++ more) ≡ walk (searched s) last n.busy more
   pub total : s.counted ≡ true → (t : ℕ) → entry_counts n.path.items t + left_at n t ≡ start_left s t
 
--- each is such a node, and no machine made more steps than nodes stand before its own
+-- each is such a node, and its machine can count one step more
 pub record AreNodes (s : Search) (nodes : List Node) : Type 0 where
   pub each : (k : ℕ) (n : Node) → slice_get nodes k ≡ Some n → IsNode s n
-  pub few : (k : ℕ) (n : Node) → slice_get nodes k ≡ Some n → n.machine.made ≤ k
+  pub few : (k : ℕ) (n : Node) → slice_get nodes k ≡ Some n → n.machine.made < 4294967295
 
 -- some node is the one for this
 abbrev pub InSet : List Node → State → Option ℕ → (ℕ → ℕ) → Type 0
@@ -46,16 +55,38 @@ InSet nodes q busy left = (k : ℕ) × (n : Node) × (slice_get nodes k ≡ Some
 abbrev pub Extends : List Node → List Node → Type 0
 Extends old new = (k : ℕ) (n : Node) → slice_get old k ≡ Some n → slice_get new k ≡ Some n
 
--- a step of this thread that interrupts nobody leads from a node into the set
+-- a step of this thread that interrupts nobody leads from a node to one from which the search comes into the set
 abbrev pub LeadsIn : Search → List Node → Node → ℕ → Type 0
 LeadsIn s nodes n t = (q : State) (busy : Option ℕ) (left : ℕ → ℕ) (next : State) → Covers n q busy left → allows s.counted left t ≡ true → may_step busy t ≡ true
-    → step (searched s) q t ≡ Some next → InSet nodes next (must_step_next (searched s) next t) (less left t)
+    → step (searched s) q t ≡ Some next → Comes s (InSet nodes) next (must_step_next (searched s) next t) (less left t)
 
 -- a node was added, where it wasn't there already; without room nothing was
 pub record IsNodeAdded (s : Search) (old new : List Node) (n : Node) (room : Bool) : Type 0 where
   pub nodes : AreNodes s new
   pub extends : Extends old new
   pub within : room ≡ true → (q : State) (busy : Option ℕ) (left : ℕ → ℕ) → Covers n q busy left → InSet new q busy left
+
+-- the search came from a node into the set, where there was room
+pub record IsNodeReached (s : Search) (old new : List Node) (n : Node) (room : Bool) : Type 0 where
+  pub nodes : AreNodes s new
+  pub extends : Extends old new
+  pub within : room ≡ true → (q : State) (busy : Option ℕ) (left : ℕ → ℕ) → Covers n q busy left → Comes s (InSet new) q busy left
+
+-- the thread goes on alone from a node where this one has to go on, or none
+abbrev pub IsAlone : Search → Node → ℕ → Option ℕ → Type 0
+IsAlone s n t None = (q : State) → StandsFor n.machine q → HasUnseenStep (searched s) q t
+IsAlone s n t (Some u) = (u ≡ t) × ((e : State) → StandsFor n.machine e → ((v : ℕ) → left_at n v ≡ 0) → IsEndSought s e → ⊥)
+
+-- the thread goes on alone from a node
+pub record IsLone (s : Search) (n : Node) (t : ℕ) : Type 0 where
+  pub allowed : allows s.counted (left_at n) t ≡ true
+  pub few : n.machine.made < 4294967295
+  pub alone : IsAlone s n t n.busy
+
+-- the search went on alone from one node to another
+pub record IsPassed (s : Search) (n m : Node) : Type 0 where
+  pub node : IsNode s m
+  pub comes : (q : State) (busy : Option ℕ) (left : ℕ → ℕ) → Covers n q busy left → Comes s (Covers m) q busy left
 
 -- each step of a thread behind a node leads into the set, where there was room
 pub record IsFollowed (s : Search) (old new : List Node) (place t : ℕ) (room : Bool) : Type 0 where

@@ -8,9 +8,9 @@ ghost use Rattle.semantics.specs.Step.{step};
 ghost use Rattle.machine.specs.declared.deed.StepEnd.TheVariants as ends;
 ghost use Rattle.machine.specs.Standing.{program_run, StandsFor};
 ghost use Rattle.witness.specs.Walks.{may_step, must_step_next, allows};
-ghost use Rattle.witness.specs.Nodes.{HasStepped, IsStart, IsTwin, IsBehind, IsChild};
+ghost use Rattle.witness.specs.Nodes.{HasStepped, IsStart, IsTwin, IsBehind, IsChild, IsAdvanced};
 
-use crate::table::{allows, use_one};
+use crate::table::{allows, use_entry, use_one};
 use compile::CodeTable;
 use core_program::CoreProgram;
 use machine::{Machine, StepEnd};
@@ -159,6 +159,32 @@ pub(crate) fn child<'p>(
     match stepped(alloc, &node.machine, thread)? {
         Some(machine) => Ok(Some(behind(alloc, node, machine, thread)?)),
         None => Ok(None),
+    }
+}
+
+/// Whether a machine can count one step more. One that can't has a schedule that no memory holds.
+pub(crate) fn can_step(machine: &Machine<'_>) -> bool
+    ensures { result ≡ true → machine.now.made < 4294967295 }
+{
+    machine.made() < 4294967295
+}
+
+/// A step of a thread from a node; answers whether there was one.
+pub(crate) fn advance(alloc: Global, node: &mut Node<'_>, thread: u32) -> Result<bool, NoMemory>
+    requires { node.old.machine.made < 4294967295 }
+    ensures { IfOk result (IsAdvanced node.old thread node.new) }
+{
+    match node.machine.step(alloc, thread) {
+        Ok(()) => {
+            node.busy = goes_on(&node.machine, thread);
+            use_entry(&mut node.left, thread);
+            node.path.push(thread)?;
+            Ok(true)
+        }
+        Err(why) => {
+            is_told(why)?;
+            Ok(false)
+        }
     }
 }
 

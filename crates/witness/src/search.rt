@@ -1,14 +1,15 @@
 //! The search: nodes are expanded one after the other, and each state is looked at once.
-ghost use Rattle.std.specs.Prelude.{◌≡◌, ◌≤◌, ◌<◌, ℕ, Some, None, true, false, length, vec_len, slice_get, IfOk};
+ghost use Rattle.std.specs.Prelude.{◌≡◌, ◌≤◌, ◌<◌, ℕ, Some, None, true, false, vec_len, slice_get, IfOk};
 ghost use Rattle.state.specs.States.{State, initial};
 ghost use Rattle.witness.specs.declared.node.Node.{Node};
 ghost use Rattle.witness.specs.Judging.{AreLike, IsGoal};
 ghost use Rattle.witness.specs.Nodes.{left_at, Covers, IsTwin};
-ghost use Rattle.witness.specs.Searching.{IsNode, AreNodes, InSet, IsNodeAdded, IsFollowed, IsExpanded, IsFound, start_left, searched};
+ghost use Rattle.witness.specs.Searching.{IsNode, AreNodes, InSet, IsNodeAdded, IsNodeReached, IsFollowed, IsExpanded, IsFound, start_left, searched};
 
 use crate::goal::{Goal, is_like};
 use crate::judge::Judged;
-use crate::node::{Node, child, copied, is_twin};
+use crate::node::{Node, can_step, child, copied, is_twin};
+use crate::passing::pass;
 use crate::places::{Places, key_of};
 use crate::table::is_used_up;
 use compile::CodeTable;
@@ -54,7 +55,6 @@ fn add<'p>(
     requires most { vec_len nodes.old ≤ search.now.most }
     requires nodes { AreNodes search.now nodes.old.items }
     requires node { IsNode search.now node }
-    requires few { node.machine.made ≤ length nodes.old.items }
     ensures added { IfOk result (IsNodeAdded search.now nodes.old.items nodes.new.items node.entry) }
     ensures most { vec_len nodes.new ≤ search.now.most }
     ensures longer { vec_len nodes.old ≤ vec_len nodes.new }
@@ -67,9 +67,33 @@ fn add<'p>(
     if nodes.len() >= search.most as usize {
         return Ok(false);
     }
+    if !can_step(&node.machine) {
+        return Err(NoMemory);
+    }
     places.add(key)?;
     nodes.push(node)?;
     Ok(true)
+}
+
+/// Goes on alone from a node, and adds the one to which that leads.
+fn add_passed<'p>(
+    alloc: Global,
+    search: &Search<'_>,
+    nodes: &mut Vec<Node<'p>>,
+    places: &mut Places,
+    node: Node<'p>,
+) -> Result<bool, NoMemory>
+    requires most { vec_len nodes.old ≤ search.now.most }
+    requires nodes { AreNodes search.now nodes.old.items }
+    requires node { IsNode search.now node }
+    ensures added { IfOk result (IsNodeReached search.now nodes.old.items nodes.new.items node.entry) }
+    ensures most { vec_len nodes.new ≤ search.now.most }
+    ensures longer { vec_len nodes.old ≤ vec_len nodes.new }
+    ensures full { IfOk result (λ room. room ≡ false → vec_len nodes.new ≡ search.now.most) }
+{
+    let mut node = node;
+    pass(alloc, search, &mut node)?;
+    add(search, nodes, places, node)
 }
 
 /// Adds the node behind a step of this thread from the node at this place, where there is one that interrupts nobody, and
@@ -92,7 +116,7 @@ fn follow<'p>(
     ensures full { IfOk result (λ room. room ≡ false → vec_len nodes.new ≡ search.now.most) }
 {
     match child(alloc, &nodes[place], search.counted, thread)? {
-        Some(node) => add(search, nodes, places, node),
+        Some(node) => add_passed(alloc, search, nodes, places, node),
         None => Ok(true),
     }
 }
@@ -123,7 +147,7 @@ fn expand<'p>(
 }
 
 /// Whether no entry is left at a node, and its state is like the end that is looked for.
-fn is_end(search: &Search<'_>, node: &Node<'_>) -> bool
+pub(crate) fn is_end(search: &Search<'_>, node: &Node<'_>) -> bool
     ensures like { (q e : State) → IsGoal search.now.goal q → Covers node.now e node.now.busy (left_at node.now) → result ≡ true → AreLike search.now.goal.by q e }
     ensures used { result ≡ true → (t : ℕ) → left_at node.now t ≡ 0 }
     ensures told { (q e : State) → IsGoal search.now.goal q → Covers node.now e node.now.busy (left_at node.now) → AreLike search.now.goal.by q e → ((t : ℕ) → left_at node.now t ≡ 0) → result ≡ true }

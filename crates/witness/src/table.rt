@@ -58,6 +58,13 @@ pub(crate) fn use_one(left: &mut [u32], thread: u32)
     left[place] = left[place].saturating_sub(1);
 }
 
+/// The same of a list that is kept.
+pub(crate) fn use_entry(left: &mut Vec<u32>, thread: u32)
+    ensures { (t : ℕ) → count_at left.new.items t ≡ less (count_at left.old.items) thread t }
+{
+    use_one(left, thread);
+}
+
 /// Whether no entry is left.
 pub(crate) fn is_used_up(left: &[u32]) -> bool
     ensures used { result ≡ true → (t : ℕ) → count_at left.now t ≡ 0 }

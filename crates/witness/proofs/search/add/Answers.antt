@@ -15,4 +15,4 @@ pub returns-then-len-search-clause-added : goal.returns-then-len-search-clause-a
 returns-then-len-search-clause-added c = full_added c.args.search.now c.args.nodes.now.items c.args.node false c.requires.nodes refl
 
 pub returns-clause-added : goal.returns-clause-added
-returns-clause-added c = new_added c.args.search.now c.args.nodes.now.items c.push.new.self.items c.args.node true c.in_ok-push.ensures.items c.requires.nodes c.requires.node c.requires.few
+returns-clause-added c = new_added c.args.search.now c.args.nodes.now.items c.push.new.self.items c.args.node true c.in_ok-push.ensures.items c.requires.nodes c.requires.node (c.can_step.ensures c.if-not-can_step.false)

@@ -12,7 +12,7 @@ overflow_cast-thread c =
     let nodes = c.args.nodes.now.items in
     let n = c.index.result.now in
     let there = node_at nodes n c.args.place (omega (arith, c.requires.within, c.args.nodes.now.ok)) c.index.ensures in
-    omega (arith, c.requires.nodes.few c.args.place n there, c.thread_count-threads.ensures.few, c.loop-thread-test.true, c.requires.within, c.requires.most, c.requires.small)
+    omega (arith, c.requires.nodes.few c.args.place n there, c.thread_count-threads.ensures.few, c.loop-thread-test.true)
 
 pub follow-requires-clause-nodes : goal.follow-requires-clause-nodes
 follow-requires-clause-nodes c = c.loop-thread.invariant.2.are

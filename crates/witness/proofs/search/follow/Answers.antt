@@ -2,8 +2,8 @@
 use Rattle.std.proofs.Common.{subst, arith}
 use Rattle.std.proofs.lemmas.Result.{IfOk-weaker}
 use Rattle.witness.specs.Nodes.{IsChild}
-use Rattle.witness.specs.Searching.{IsNodeAdded, IsFollowed}
-use Rattle.witness.proofs.SearchLemmas.{node_at, child_node, child_few, child_followed, none_leads}
+use Rattle.witness.specs.Searching.{IsNodeReached, IsFollowed}
+use Rattle.witness.proofs.SearchLemmas.{node_at, child_node, child_followed, none_leads}
 use Rattle.witness.proofs.search.follow.Goals as goal
 
 pub child-requires : goal.child-requires
@@ -12,23 +12,15 @@ child-requires c =
     let place = c.args.place in
     let within = c.requires.within in
     let few = c.requires.nodes.few place c.index.result.now (node_at nodes c.index.result.now place (omega (arith, within, c.args.nodes.now.ok)) c.index.ensures) in
-    omega (arith, few, within, c.requires.most, c.requires.small)
+    few
 
-pub add-requires-clause-node : goal.add-requires-clause-node
-add-requires-clause-node c =
+pub add_passed-requires-clause-node : goal.add_passed-requires-clause-node
+add_passed-requires-clause-node c =
     let nodes = c.args.nodes.now.items in
     let n = c.index.result.now in
     let there = node_at nodes n c.args.place (omega (arith, c.requires.within, c.args.nodes.now.ok)) c.index.ensures in
     let s = c.args.search.now in
     child_node s nodes n c.args.place c.args.thread there c.requires.nodes c.in-Some.node (subst (IsChild s.counted n c.args.thread) c.in-Some.is c.in_ok-node.ensures)
-
-pub add-requires-clause-few : goal.add-requires-clause-few
-add-requires-clause-few c =
-    let nodes = c.args.nodes.now.items in
-    let n = c.index.result.now in
-    let there = node_at nodes n c.args.place (omega (arith, c.requires.within, c.args.nodes.now.ok)) c.index.ensures in
-    let s = c.args.search.now in
-    child_few s nodes n c.args.place c.args.thread there c.requires.nodes c.in-Some.node (subst (IsChild s.counted n c.args.thread) c.in-Some.is c.in_ok-node.ensures)
 
 pub returns-in-Some-clause-followed : goal.returns-in-Some-clause-followed
 returns-in-Some-clause-followed c =
@@ -36,10 +28,10 @@ returns-in-Some-clause-followed c =
     let n = c.index.result.now in
     let there = node_at nodes n c.args.place (omega (arith, c.requires.within, c.args.nodes.now.ok)) c.index.ensures in
     let s = c.args.search.now in
-    let new = c.add.new.nodes.items in
-    IfOk-weaker c.add.result (IsNodeAdded s nodes new c.in-Some.node) (IsFollowed s nodes new c.args.place c.args.thread)
+    let new = c.add_passed.new.nodes.items in
+    IfOk-weaker c.add_passed.result (IsNodeReached s nodes new c.in-Some.node) (IsFollowed s nodes new c.args.place c.args.thread)
     (λ room added. child_followed s nodes n c.args.place c.args.thread there c.requires.nodes new c.in-Some.node room (subst (IsChild s.counted n c.args.thread) c.in-Some.is c.in_ok-node.ensures) added)
-    c.add.ensures.added
+    c.add_passed.ensures.added
 
 pub returns-in-None-clause-followed : goal.returns-in-None-clause-followed
 returns-in-None-clause-followed c =
