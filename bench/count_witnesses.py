@@ -62,13 +62,13 @@ class Programs:
 
 def sources() -> Iterator[tuple[str, str]]:
     """The sources in the tables, each once, with the line that it is the source of."""
-    told: set[str] = set()
+    told: set[bytes] = set()
     for page in ("why.md", "repairs.md"):
         for cells in table_rows("docs", page):
-            text = source_of(cells[-1].replace("\\|", "|")).decode()
-            if "class Main" in text and text not in told:
-                told.add(text)
-                yield f"{page}, {cells[0]}", text
+            source = source_of(cells[-1].replace("\\|", "|"))
+            if b"class Main" in source and source not in told:
+                told.add(source)
+                yield f"{page}, {cells[0]}", source.decode()
 
 
 def main() -> None:
