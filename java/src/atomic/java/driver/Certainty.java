@@ -16,6 +16,9 @@ import java.util.regex.Pattern;
 final class Certainty {
     /** What stands between a place and an error there. */
     static final String ERROR = ": error: ";
+    /** What stands behind the place of an error that may be a wrong alarm. */
+    static final String DOUBT = ": note: this may be a wrong alarm: without what is approximated in it, or in what it touches,"
+        + " it isn't found";
     private static final Pattern PLACED = Pattern.compile("(.*?):(\\d+):(\\d+): error: .*");
     private static final String FOUND = ", found ";
 
@@ -39,8 +42,7 @@ final class Certainty {
             all.add(block.get(0));
             all.addAll(sure != null ? sure.subList(1, sure.size()) : block.subList(1, block.size()));
             if (sure == null) {
-                all.add(key.substring(0, key.indexOf(ERROR)) + ": note: this may be a wrong alarm: without what is"
-                    + " approximated in it, or in what it touches, it isn't found");
+                all.add(key.substring(0, key.indexOf(ERROR)) + DOUBT);
             }
         });
         return all;

@@ -68,15 +68,18 @@ public final class Run {
         }
         judging.finish();
         emit(judging.texts());
+        List<String> errors = judging.lines();
+        if (judging.status() != 0 && program.notes().approximates()) {
+            certain = certain == null ? certain(attribution, checker) : certain;
+            errors = lines(judging, certain);
+        }
+        if (errors.stream().anyMatch(each -> each.endsWith(Certainty.DOUBT))) {
+            program.notes().reveal();
+        }
         if (!options.quiet()) {
             program.notes().lines().forEach(line -> answer.append(line).append('\n'));
         }
-        if (judging.status() != 0 && program.notes().approximates()) {
-            certain = certain == null ? certain(attribution, checker) : certain;
-            lines(judging, certain).forEach(line -> answer.append(line).append('\n'));
-        } else {
-            judging.lines().forEach(line -> answer.append(line).append('\n'));
-        }
+        errors.forEach(line -> answer.append(line).append('\n'));
         long promised = program.methods().stream().filter(methods::promises).count();
         System.err.println(new Summary(program.notes(), methods).line(judging, (int) promised));
         hint(program, methods, promised);

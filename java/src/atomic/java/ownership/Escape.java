@@ -24,6 +24,7 @@ import java.util.HashMap;
 import java.util.HashSet;
 import java.util.Map;
 import java.util.Set;
+import java.util.function.Predicate;
 import javax.lang.model.element.Element;
 import javax.lang.model.element.ElementKind;
 import javax.lang.model.element.ExecutableElement;
@@ -52,6 +53,7 @@ public final class Escape {
     private final Results results;
     private final Set<Element> visited = new HashSet<>();
     private final Map<Element, Long> throughs = new HashMap<>();
+    private Predicate<Tree> isHandedOn = tree -> false;
 
     public Escape(Program program, Uses uses) {
         this.program = program;
@@ -59,6 +61,11 @@ public final class Escape {
         attribution = program.attribution();
         selves = new Selves(program, uses, this);
         results = new Results(attribution);
+    }
+
+    /** Which functions are given to a method at hand that only calls them. */
+    void helpersCall(Predicate<Tree> functions) {
+        isHandedOn = functions;
     }
 
     /** Where {@code this} gets away in a method. */
@@ -85,7 +92,7 @@ public final class Escape {
         } else if (parent instanceof ReturnTree) {
             return attribution.end(parent);
         } else if (parent instanceof MemberReferenceTree reference) {
-            return isCalledAtOnce(reference) ? NEVER : attribution.start(reference);
+            return isCalledAtOnce(reference) || isHandedOn.test(reference) ? NEVER : attribution.start(reference);
         } else if (parent instanceof ConditionalExpressionTree condition) {
             return condition.getCondition() == use ? NEVER : from(parent);
         } else if (parent instanceof EnhancedForLoopTree loop && results.mentionsEntry(

@@ -12,6 +12,7 @@ import com.sun.source.tree.MethodTree;
 import com.sun.source.tree.Tree;
 import com.sun.source.tree.VariableTree;
 import java.util.HashMap;
+import java.util.HashSet;
 import java.util.Map;
 import java.util.Optional;
 import java.util.Set;
@@ -25,7 +26,8 @@ import javax.lang.model.type.DeclaredType;
 
 /**
  * Functions that are only called where they stand: a local keeps the lambda, nothing else is done with it than to call it, or
- * to give it to a call that calls it at once, and all of that in the method that it stands in. Such a function does its steps
+ * to give it to a call that calls it at once, a library's or that of a helper at hand, and all of that in the method that it
+ * stands in. Such a function does its steps
  * where it is called, and holds what is held there; it runs in no other thread and at no other time.
  */
 public final class LocalFunctions {
@@ -36,6 +38,7 @@ public final class LocalFunctions {
     private final Uses uses;
     private final Escape escape;
     private final Map<Element, Optional<ExpressionTree>> known = new HashMap<>();
+    private final Set<Tree> asked = new HashSet<>();
 
     LocalFunctions(Program program, Uses uses, Escape escape) {
         this.program = program;
@@ -80,11 +83,21 @@ public final class LocalFunctions {
         return uses.of(local).stream().allMatch(use -> isCall(use) && isWithin(use, declaration)) ? value : null;
     }
 
-    /** Whether a library's interface says what the function is: one of the sources may have a default method. */
+    /** Whether an interface says what the function is: one of a library, or one of the sources with this one method. */
     private boolean isPlain(VariableElement local) {
         return local.asType() instanceof DeclaredType type && type.asElement() instanceof TypeElement named
             && (named.getQualifiedName().toString().startsWith("java.util.function.")
-                || PLAIN.contains(named.getQualifiedName().toString()));
+                || PLAIN.contains(named.getQualifiedName().toString()) || program.find(named) != null
+                && named.getInterfaces().isEmpty() && program.find(named).methods().size() == 1);
+    }
+
+    /** Whether it is surely this method that runs where it is called: no method at hand has its place. */
+    public boolean isFixed(JavaMethod method) {
+        boolean fixed = !method.isVirtual() || method.symbol().getModifiers().contains(Modifier.FINAL)
+            || method.owner().symbol().getModifiers().contains(Modifier.FINAL) || !program.options().strict();
+        return fixed && !method.isConstructor() && method.tree().getBody() != null && !method.owner().isInterface()
+            && program.named(method.symbol().getSimpleName()).stream().noneMatch(each -> each != method && each.isVirtual()
+                && attribution.elements().overrides(each.symbol(), method.symbol(), each.owner().symbol()));
     }
 
     /** Whether code stands in a method: where an object is made, what it is known by changes from one line to the next. */
@@ -102,14 +115,27 @@ public final class LocalFunctions {
         Tree parent = attribution.parent(use);
         return parent instanceof MemberSelectTree select && attribution.parent(select) instanceof MethodInvocationTree call
             && call.getMethodSelect() == select && attribution.element(call) instanceof ExecutableElement symbol
-            && symbol.getModifiers().contains(Modifier.ABSTRACT) || escape.isCalledAtOnce(use);
+            && symbol.getModifiers().contains(Modifier.ABSTRACT) || escape.isCalledAtOnce(use) || isHandedOn(use);
+    }
+
+    /** Whether a function is given to a method at hand, in whose place no other may run, and which only calls it. */
+    boolean isHandedOn(Tree use) {
+        int at = attribution.parent(use) instanceof MethodInvocationTree call ? call.getArguments().indexOf(use) : -1;
+        JavaMethod method = at < 0 ? null : program.method(attribution.element(attribution.parent(use)));
+        if (method == null || method.symbol().isVarArgs() || !isFixed(method) || !asked.add(use)) {
+            return false;
+        }
+        boolean called = isOnlyCalled(method.symbol().getParameters().get(at));
+        asked.remove(use);
+        return called;
     }
 
     /** Whether a use stands in the same method, and in no function that may run later. */
     private boolean isWithin(Tree use, Tree declaration) {
         Tree home = program.around(declaration);
         Tree at = program.around(use);
-        while (at instanceof LambdaExpressionTree lambda && at != home && escape.isCalledAtOnce(lambda)) {
+        while (at instanceof LambdaExpressionTree lambda && at != home
+                && (escape.isCalledAtOnce(lambda) || isHandedOn(lambda))) {
             at = program.around(at);
         }
         return at == home;

@@ -104,7 +104,8 @@ final class NodeCalls {
             return before && (choice.kind() == Choice.Kind.PURE || choice.kind() == Choice.Kind.ASSUMED)
                 && call.getArguments().stream().allMatch(each -> !isFunction(each) || isAtHand(each));
         }
-        return function instanceof LambdaExpressionTree;
+        return function instanceof LambdaExpressionTree || attribution.element(function) instanceof VariableElement field
+            && field.getKind() == ElementKind.FIELD && ownership.comparators().isFollowed(field);
     }
 
     /** Whether a library's method that is named keeps a node in what says that it holds nodes. */

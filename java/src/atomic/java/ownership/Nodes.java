@@ -101,7 +101,14 @@ public final class Nodes {
             && !each.symbol().getModifiers().contains(Modifier.PROTECTED);
         return hidden && each.symbol().getSuperclass().toString().equals("java.lang.Object")
             && each.symbol().getInterfaces().isEmpty() && each.methods().stream().noneMatch(method ->
-                method.symbol().getModifiers().contains(Modifier.SYNCHRONIZED) || method.isStatic());
+                method.symbol().getModifiers().contains(Modifier.SYNCHRONIZED) || method.isStatic())
+            && each.symbol().getEnclosedElements().stream().noneMatch(Nodes::isLock);
+    }
+
+    /** Whether a member is a lock with methods: objects with locks of their own belong to these. */
+    private static boolean isLock(Element member) {
+        String type = member.getKind() == ElementKind.FIELD ? member.asType().toString() : "";
+        return type.startsWith("java.util.concurrent.locks.") && !type.endsWith(".Condition");
     }
 
     /** Whether objects of a class stay in the container, where those of these classes do. */
@@ -161,7 +168,9 @@ public final class Nodes {
         @Override
         public Void visitVariable(VariableTree tree, Void nothing) {
             Element symbol = attribution.element(tree);
-            if (symbol != null && symbol.getKind() == ElementKind.FIELD && types.mentions(symbol.asType())) {
+            boolean held = symbol instanceof VariableElement field && field.getKind() == ElementKind.FIELD
+                && types.mentions(field.asType()) && !ownership.comparators().isFollowed(field);
+            if (held) {
                 need(isInside(current) && !symbol.getModifiers().contains(Modifier.STATIC)
                     && !symbol.getModifiers().contains(Modifier.PUBLIC));
             }

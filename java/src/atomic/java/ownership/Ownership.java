@@ -44,6 +44,7 @@ public final class Ownership {
     private final Looks looks;
     private final Sites sites;
     private final LocalFunctions localFunctions;
+    private final Comparators comparators;
     private final Map<VariableElement, String> made = new HashMap<>();
     private final Map<JavaMethod, String> given = new HashMap<>();
     private final Map<VariableElement, Long> escapes = new HashMap<>();
@@ -51,6 +52,8 @@ public final class Ownership {
     private final Map<Element, VariableElement> confined = new HashMap<>();
     private final Set<VariableElement> shared = new HashSet<>();
     private static final String UNKNOWN = "";
+    private static final Set<String> PLAIN_MAPS = Set.of("java.util.HashMap", "java.util.LinkedHashMap", "java.util.TreeMap",
+        "java.util.IdentityHashMap", "java.util.WeakHashMap");
 
     public Ownership(Program program, Uses uses) {
         this.program = program;
@@ -60,6 +63,8 @@ public final class Ownership {
         looks = new Looks(program, uses, escape);
         sites = new Sites(program);
         localFunctions = new LocalFunctions(program, uses, escape);
+        comparators = new Comparators(program, this);
+        escape.helpersCall(localFunctions::isHandedOn);
     }
 
     Uses uses() {
@@ -77,6 +82,11 @@ public final class Ownership {
     /** The functions in locals that are only called. */
     public LocalFunctions localFunctions() {
         return localFunctions;
+    }
+
+    /** The comparators whose functions are at hand. */
+    public Comparators comparators() {
+        return comparators;
     }
 
     /** Finds the fields whose objects stay within their classes, under whatever names. */
@@ -243,6 +253,9 @@ public final class Ownership {
                 && List.of("toCharArray", "getBytes", "split", "toArray").contains(symbol.getSimpleName().toString())
                 && call.getArguments().isEmpty()) {
             return "[]";
+        }
+        if (symbol.getSimpleName().contentEquals("newSetFromMap") && call.getArguments().size() == 1) {
+            return PLAIN_MAPS.contains(String.valueOf(fresh(call.getArguments().get(0)))) ? "java.util.HashSet" : null;
         }
         if (Escape.givesItself(symbol) && call.getMethodSelect() instanceof MemberSelectTree select) {
             return fresh(select.getExpression());

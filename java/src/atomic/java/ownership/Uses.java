@@ -192,7 +192,7 @@ public final class Uses {
     }
 
     /** Whether a name stands for what is assigned. */
-    boolean isTarget(Tree name) {
+    public boolean isTarget(Tree name) {
         return attribution.parent(name) instanceof AssignmentTree assignment && assignment.getVariable() == name;
     }
 

@@ -31,6 +31,10 @@ public final class Races {
             boolean open = field.guard() == null || field.guard().writesOnly();
             if (open && field.mayBeGuarded() && !field.ordered() && field.place() != null) {
                 notes.tell(Notes.Kind.DATA_RACE, null, field.place(), text(field));
+                if (field.wide() && !field.isContents()) {
+                    notes.hint(field.place(), "two halves: " + names.shown(field.name())
+                        + " has 64 bits, so that one access counts as two, which most machines do in one");
+                }
             }
         }
         part.parts().forEach(this::part);

@@ -63,7 +63,7 @@ public final class Waiting {
         return part instanceof Part.Wait || part.parts().stream().anyMatch(Waiting::waits);
     }
 
-    /** The methods that only look: none of their steps writes, locks or waits. */
+    /** The methods that only look: none of their steps writes. A lock that is given back again leaves nothing behind. */
     private void findLooking() {
         looking.addAll(methods);
         boolean changed = true;
@@ -77,8 +77,6 @@ public final class Waiting {
             return !access.write();
         } else if (part instanceof Part.Call call) {
             return callees.of(call.target()).stream().allMatch(looking::contains);
-        } else if (part instanceof Part.Region) {
-            return false;
         }
         return part.parts().stream().allMatch(this::looks);
     }

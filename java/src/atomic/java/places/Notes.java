@@ -15,6 +15,7 @@ public final class Notes {
     public enum Kind { DATA_RACE, ASSUMED, APPROXIMATED }
 
     private final TreeMap<Place, Set<String>> lines = new TreeMap<>();
+    private final TreeMap<Place, Set<String>> hints = new TreeMap<>();
     private final Set<Object> assumed = new HashSet<>();
     private final Set<Object> approximated = new HashSet<>();
 
@@ -24,6 +25,16 @@ public final class Notes {
         if (method != null && kind != Kind.DATA_RACE) {
             (kind == Kind.ASSUMED ? assumed : approximated).add(method);
         }
+    }
+
+    /** Something that counts as more than it may be, which is told where some alarm may be a wrong one, and not else. */
+    public void hint(Place place, String text) {
+        hints.computeIfAbsent(place, key -> new TreeSet<>()).add(word(Kind.APPROXIMATED) + ": " + text);
+    }
+
+    /** Some alarm may be a wrong one. */
+    public void reveal() {
+        hints.forEach((place, texts) -> lines.computeIfAbsent(place, key -> new TreeSet<>()).addAll(texts));
     }
 
     private static String word(Kind kind) {
@@ -44,7 +55,7 @@ public final class Notes {
 
     /** Whether anything is approximated. */
     public boolean approximates() {
-        return lines.values().stream().flatMap(Set::stream).anyMatch(each -> each.startsWith("approximated"));
+        return !hints.isEmpty() || lines.values().stream().flatMap(Set::stream).anyMatch(each -> each.startsWith("approximated"));
     }
 
     /** All notes as lines, by their places. */

@@ -77,15 +77,18 @@ final class Accesses {
         Value holder = holder(source, home, receiver);
         if (body.stable().contains(field) && isOwn(at)) {
             services.methods().repeats(services.attribution().name(at), services.attribution().name(at));
-        } else if (!settled && !(looksAgain(field, at) && services.program().sure())) {
+        } else if (!settled && !(looksAgain(field, at) && services.program().sure()) && !isStable(field, at)) {
             access(holder, home.field(), false, at);
         }
         if (owned) {
             Fields.Home contents = services.fields().contents(field);
             Value inside = holder(field, contents, receiver);
             Path own = settled && home.field().type() != null ? behind(holder, home.field()).path() : null;
-            return inside instanceof Value.Fresh ? new Value.Fresh(null)
-                : new Value.Owned(inside, contents.field(), own);
+            if (inside instanceof Value.Fresh) {
+                services.functions().compare(services.fields().comparing(contents.field()), body, at);
+                return new Value.Fresh(null);
+            }
+            return new Value.Owned(inside, contents.field(), own);
         }
         return settled ? behind(holder, home.field()) : new Value.Opaque(home.field().type());
     }
@@ -98,6 +101,16 @@ final class Accesses {
                 + " never goes back, so this look may tell nothing new, and counts as a step all the same");
         }
         return again;
+    }
+
+    /** Whether a field is given an object once, and only what is certain counts: a look at it may tell the same later. */
+    private boolean isStable(VariableElement field, Tree at) {
+        boolean once = new StableLooks(services).isSetOnce(field);
+        if (once) {
+            services.hint(at, "stable look: " + field.getSimpleName() + " is set once, so that what a look has found stays so,"
+                + " and its setting may show nowhere; each counts as a step all the same");
+        }
+        return once && services.program().sure();
     }
 
     /** Reads a field that has the object of another one, of an object around. */
@@ -165,7 +178,9 @@ final class Accesses {
             foreign(field, receiver, true, at);
         } else if (!services.fields().isSettled(field)) {
             Fields.Home home = services.fields().home(field);
-            access(holder(field, home, receiver), home.field(), true, at);
+            if (!isStable(field, at)) {
+                access(holder(field, home, receiver), home.field(), true, at);
+            }
         }
     }
 

@@ -70,7 +70,8 @@ final class Callbacks {
         boolean later = called.choice().keeps() || called.at() instanceof NewClassTree;
         for (int k = 0; k < called.arguments().size() && later; k++) {
             TypeElement wanted = parameter(symbol, k);
-            if (wanted != null && wanted.toString().equals("java.util.Comparator")) {
+            if (wanted != null && wanted.toString().equals("java.util.Comparator")
+                    && !services.ownership().comparators().isAtHand(called.arguments().get(k))) {
                 services.tell(Notes.Kind.ASSUMED, body, called.at(), "the comparator that " + called.shown()
                     + " is given looks at nothing that others write");
             }

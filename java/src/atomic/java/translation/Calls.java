@@ -45,7 +45,7 @@ final class Calls {
         JavaMethod method = services.program().method(symbol);
         if (method == null) {
             return new LibraryCalls(services, body).call(tree, executable);
-        } else if (new Helpers(services, body).write(tree, method)) {
+        } else if (new Helpers(services, body).write(tree, method) || runs(tree, method)) {
             return Value.OPAQUE;
         }
         Value receiver = method.isStatic() ? qualifier(tree) : receiver(tree, method);
@@ -54,6 +54,17 @@ final class Calls {
         VariableElement field = services.ownership().holding(symbol);
         return field != null ? new Accesses(services, body).confined(field, services.attribution().start(tree))
             : "[]".equals(services.ownership().fresh(tree)) ? new Value.Fresh(null) : Value.OPAQUE;
+    }
+
+    /** Writes a function behind an interface of the sources that is only called here; whether it is one. */
+    private boolean runs(MethodInvocationTree tree, JavaMethod method) {
+        ExpressionTree function = method.isAbstract() && tree.getMethodSelect() instanceof MemberSelectTree select
+            ? services.functions().named(select.getExpression()) : null;
+        if (function != null) {
+            tree.getArguments().forEach(expressions::value);
+            services.functions().inline(function, body);
+        }
+        return function != null;
     }
 
     private Value unknown(MethodInvocationTree tree) {
@@ -121,6 +132,7 @@ final class Calls {
         if (value instanceof Value.Owned owned && !(owned.receiver() instanceof Value.Fresh)) {
             Part access = new Part.Access(owned.receiver(), owned.contents(), write, services.attribution().name(at));
             body.emit(Part.sequence(List.of(access, access)));
+            services.functions().compare(services.fields().comparing(owned.contents()), body, at);
         }
     }
 

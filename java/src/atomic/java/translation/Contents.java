@@ -77,8 +77,19 @@ final class Contents {
         } else if (at instanceof NewClassTree made) {
             parts.addAll(made.getArguments());
         }
-        return parts.stream().map(Uses::bare).anyMatch(each -> each instanceof MethodInvocationTree
+        return parts.stream().map(this::begins).anyMatch(each -> each instanceof MethodInvocationTree
             && services.program().method(services.attribution().element(each)) != null);
+    }
+
+    /** What a chain of a library's calls on a stream begins with. */
+    private ExpressionTree begins(ExpressionTree tree) {
+        ExpressionTree each = Uses.bare(tree);
+        while (each instanceof MethodInvocationTree call && call.getMethodSelect() instanceof MemberSelectTree select
+                && services.program().method(services.attribution().element(call)) == null
+                && new Pipelines(services, body).isStream(services.attribution().type(select.getExpression()))) {
+            each = Uses.bare(select.getExpression());
+        }
+        return each;
     }
 
     private boolean isArray(ExpressionTree tree) {
@@ -93,6 +104,7 @@ final class Contents {
             if (!(owned.receiver() instanceof Value.Fresh)) {
                 body.emit(new Part.Access(owned.receiver(), owned.contents(), write, services.attribution().name(at)));
             }
+            services.functions().compare(services.fields().comparing(owned.contents()), body, at);
             return true;
         } else if (isArgument(object) && !services.program().options().strict()) {
             services.tell(Notes.Kind.ASSUMED, body, at, "no other thread touches " + named(object, shown)

@@ -40,7 +40,7 @@ final class Dispatch {
     }
 
     private Part unknown(JavaMethod method, Body body) {
-        return services.doubt(Method.Doubt.OPEN, shown(method), true, body, method.tree(),
+        return services.doubt(Method.Doubt.ANY, shown(method), true, body, method.tree(),
             "unknown call: no class at hand has " + shown(method) + ", so it may do anything");
     }
 

@@ -90,6 +90,7 @@ final class Expressions extends SimpleTreeVisitor<Value, Void> {
         } else if (symbol.getKind().isField()) {
             return accesses.read(variable, accesses.implicit(variable, offset), tree);
         }
+        services.functions().passed(tree, body);
         return new Locals(services, body).read(variable, offset);
     }
 

@@ -12,6 +12,7 @@ import atomic.java.skeleton.Path;
 import atomic.java.skeleton.Shape;
 import com.sun.source.tree.BlockTree;
 import com.sun.source.tree.ClassTree;
+import com.sun.source.tree.ExpressionTree;
 import com.sun.source.tree.MemberSelectTree;
 import com.sun.source.tree.MethodTree;
 import com.sun.source.tree.Tree;
@@ -46,6 +47,7 @@ public final class Fields {
     private final Guards guards;
     private final Map<VariableElement, Home> homes = new HashMap<>();
     private final Map<VariableElement, Home> contents = new HashMap<>();
+    private final Map<Field, VariableElement> holders = new HashMap<>();
     private final Map<VariableElement, Map<Shape, Field>> inherited = new HashMap<>();
     private final Map<VariableElement, Boolean> settled = new HashMap<>();
     private final Map<JavaClass, Field> statics = new HashMap<>();
@@ -94,6 +96,7 @@ public final class Fields {
             boolean array = java.asType().getKind() == javax.lang.model.type.TypeKind.ARRAY;
             known = make(java, owner, new Wish(name + "_contents", name + (array ? "[]" : "'s contents"), null, false));
             contents.put(java, known);
+            holders.put(known.field(), java);
             if (ownership.isShared(java)) {
                 known.field().leaveUnguarded();
                 program.notes().tell(Notes.Kind.APPROXIMATED, java, known.field().place(), "object of others: a copy by"
@@ -103,6 +106,12 @@ public final class Fields {
             }
         }
         return known;
+    }
+
+    /** The functions that compare the elements of the collection whose contents a field stands for. */
+    List<ExpressionTree> comparing(Field contents) {
+        VariableElement java = holders.get(contents);
+        return java == null ? List.of() : ownership.comparators().of(java);
     }
 
     /** What a field of the skeleton is to be. */
@@ -147,7 +156,7 @@ public final class Fields {
         if (isVolatile && !contents) {
             field.order();
         }
-        if (contents ? isWide(elementType(java)) || holdsContents(elementType(java)) : isWide(java.asType()) && !isVolatile) {
+        if (contents ? isWide(elementType(java)) || holdsContents(elementType(java)) : isWide(java.asType()) && !isVolatile && !program.sure()) {
             field.widen();
         }
         return new Home(field, holder);

@@ -1,7 +1,6 @@
 package atomic.java.translation;
 
 import atomic.java.ownership.Uses;
-import atomic.java.places.Notes;
 import atomic.java.program.JavaClass;
 import atomic.java.program.JavaMethod;
 import atomic.java.skeleton.Field;
@@ -12,16 +11,20 @@ import atomic.java.skeleton.Shape;
 import atomic.java.skeleton.Value;
 import com.sun.source.tree.BlockTree;
 import com.sun.source.tree.ExpressionTree;
+import com.sun.source.tree.IdentifierTree;
 import com.sun.source.tree.LambdaExpressionTree;
 import com.sun.source.tree.MemberReferenceTree;
 import com.sun.source.tree.Tree;
 import com.sun.source.tree.VariableTree;
+import com.sun.source.util.TreeScanner;
 import java.util.ArrayList;
+import java.util.Collection;
 import java.util.HashMap;
 import java.util.HashSet;
 import java.util.List;
 import java.util.Map;
 import java.util.Set;
+import java.util.stream.Stream;
 import javax.lang.model.element.VariableElement;
 
 /**
@@ -29,10 +32,15 @@ import javax.lang.model.element.VariableElement;
  * method, and is judged alone, since it may run at any time and in any thread.
  */
 final class Functions {
+
+    /** How often a helper's body is written within itself. */
+    private static final int DEEPEST = 3;
+
     private final Services services;
     private final Map<JavaClass, List<Method>> implementations = new HashMap<>();
     private final Map<VariableElement, ExpressionTree> given = new HashMap<>();
-    private final Set<JavaMethod> helpers = new HashSet<>();
+    private final List<JavaMethod> helpers = new ArrayList<>();
+    private final Set<Tree> begun = new HashSet<>();
 
     Functions(Services services) {
         this.services = services;
@@ -63,20 +71,56 @@ final class Functions {
 
     /** Writes a helper's body, whose parameters stand for these functions. */
     void within(JavaMethod helper, Map<VariableElement, ExpressionTree> functions, Runnable work) {
+        Map<VariableElement, ExpressionTree> before = new HashMap<>(given);
         helpers.add(helper);
         services.methods().helper(helper.place());
         given.putAll(functions);
         try {
             work.run();
         } finally {
-            given.keySet().removeAll(functions.keySet());
-            helpers.remove(helper);
+            given.clear();
+            given.putAll(before);
+            helpers.remove(helpers.size() - 1);
         }
     }
 
-    /** Whether this helper's body is being written. */
-    boolean isWithin(JavaMethod helper) {
-        return helpers.contains(helper);
+    /**
+     * Whether a helper's body may be written: within itself a few times, as a function that it is given may call it, but then
+     * none of the functions at hand stands in it, since what that one names belongs to the call around.
+     */
+    boolean mayBegin(JavaMethod helper, Collection<ExpressionTree> functions) {
+        return helpers.stream().filter(each -> each == helper).count() < DEEPEST
+            && Stream.concat(given.values().stream(), functions.stream()).noneMatch(each -> standsIn(each, helper));
+    }
+
+    private boolean standsIn(Tree function, JavaMethod helper) {
+        Tree each = function;
+        while (each != null && each != helper.tree()) {
+            each = services.attribution().parent(each);
+        }
+        return each != null;
+    }
+
+    /** A function that is only called, and is given to a call that isn't written with it, is judged by itself too. */
+    void passed(ExpressionTree name, Body around) {
+        ExpressionTree function = named(name);
+        if (function != null) {
+            alone(function, around);
+        }
+    }
+
+    /** The same of functions that a function mentions which is judged by itself: what it is then called with isn't known. */
+    private void mentioned(Tree function, Body around) {
+        new TreeScanner<Void, Void>() {
+            @Override
+            public Void visitIdentifier(IdentifierTree name, Void nothing) {
+                ExpressionTree other = given.get(services.attribution().element(name));
+                if (other != null) {
+                    alone(other, around);
+                }
+                return null;
+            }
+        }.scan(function, null);
     }
 
     /** Writes a function that is at hand where it is called. */
@@ -88,24 +132,22 @@ final class Functions {
         }
     }
 
-    /** Makes a lambda a class of its own, unless it is only called. */
-    void apart(LambdaExpressionTree tree, Body around) {
-        if (services.ownership().localFunctions().isOnlyCalled(tree)) {
-            return;
+    /** Makes a lambda, or the name of a method, a class of its own with one method, unless it is only called. */
+    void apart(ExpressionTree function, Body around) {
+        if (!services.ownership().localFunctions().isOnlyCalled(function)
+                && !services.ownership().comparators().isFollowed(function)) {
+            alone(function, around);
         }
-        Method method = method(tree, around);
-        Body body = body(tree, method, around);
-        services.methods().later(() -> method.body(body.collect(() -> inline(tree, body))));
     }
 
-    /** Makes the name of a method a class of its own, whose method calls that one, unless it is only called. */
-    void apart(MemberReferenceTree tree, Body around) {
-        if (services.ownership().localFunctions().isOnlyCalled(tree)) {
-            return;
+    private void alone(ExpressionTree function, Body around) {
+        if (begun.add(function)) {
+            Method method = method(function, around);
+            Body body = body(function, method, around);
+            mentioned(function, around);
+            services.methods().later(() -> method.body(body.collect(() -> inline(function, body))));
+            begun.remove(function);
         }
-        Method method = method(tree, around);
-        Body body = body(tree, method, around);
-        services.methods().later(() -> method.body(body.collect(() -> new Calls(services, body).reference(tree))));
     }
 
     private Method method(Tree tree, Body around) {
@@ -155,7 +197,8 @@ final class Functions {
             ExpressionTree named = named(arguments.get(k));
             ExpressionTree bare = named != null ? named : Uses.bare(arguments.get(k));
             Part part = Part.NOTHING;
-            if (!services.ownership().escape().isTaken(at, k)) {
+            compare(services.ownership().comparators().named(bare), body, at);
+            if (!services.ownership().escape().isTaken(at, k) || services.ownership().comparators().isFollowed(bare)) {
                 continue;
             } else if (bare instanceof LambdaExpressionTree lambda) {
                 part = body.collect(() -> inline(lambda, body));
@@ -164,8 +207,7 @@ final class Functions {
             } else if (services.program().find(services.attribution().type(bare)) != null) {
                 part = body.collect(() -> new Comparisons(services, body).comparator(bare, at));
             } else if (isFunction(bare)) {
-                part = services.step("a function that isn't known", true, bare);
-                services.tell(Notes.Kind.APPROXIMATED, body, bare,
+                part = services.doubt(Method.Doubt.OPEN, "a function that isn't known", true, body, bare,
                     "unknown call: a function that isn't known may do anything");
             }
             Part further = body.collect(() -> new Pipelines(services, body).givenBy(bare));
@@ -174,6 +216,27 @@ final class Functions {
                 body.emit(once ? new Part.Either(part, Part.NOTHING)
                     : new Part.Repeat(part, services.attribution().place(at)));
             }
+        }
+    }
+
+    /** Writes the functions of a comparator, which are called any number of times; what they capture isn't known here. */
+    void compare(List<ExpressionTree> functions, Body body, Tree at) {
+        List<Part> all = new ArrayList<>();
+        for (ExpressionTree each : functions) {
+            new TreeScanner<Void, Void>() {
+                @Override
+                public Void visitIdentifier(IdentifierTree name, Void nothing) {
+                    if (services.attribution().element(name) instanceof VariableElement local && !local.getKind().isField()) {
+                        body.locals().putIfAbsent(local, Value.OPAQUE);
+                    }
+                    return null;
+                }
+            }.scan(each, null);
+            all.add(body.collect(() -> inline(each, body)));
+        }
+        Part part = Part.sequence(all);
+        if (!part.isNothing()) {
+            body.emit(new Part.Repeat(part, services.attribution().place(at)));
         }
     }
 

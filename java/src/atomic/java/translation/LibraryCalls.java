@@ -54,6 +54,7 @@ final class LibraryCalls {
             services.functions().inline(function, body);
             return Value.OPAQUE;
         }
+        services.functions().compare(services.ownership().comparators().named(before), body, tree);
         Value object = isStatic ? Value.OPAQUE : before == null ? own(symbol, tree) : expressions.value(before);
         if (new Waits(services, body).isWait(tree, symbol, before)) {
             tree.getArguments().forEach(expressions::value);
@@ -88,7 +89,8 @@ final class LibraryCalls {
         List<Value> values = new ArrayList<>();
         for (ExpressionTree argument : arguments) {
             ExpressionTree bare = Uses.bare(argument);
-            boolean function = bare instanceof LambdaExpressionTree || bare instanceof MemberReferenceTree;
+            boolean function = bare instanceof LambdaExpressionTree || bare instanceof MemberReferenceTree
+                || services.functions().named(bare) != null;
             boolean later = function && services.ownership().escape().isCalledAtOnce(bare);
             values.add(later ? Value.OPAQUE : expressions.value(argument));
         }
@@ -150,7 +152,7 @@ final class LibraryCalls {
                 }
                 boolean own = choice.runsFunctions() && called.arguments().stream().map(Uses::bare).anyMatch(each ->
                     each instanceof LambdaExpressionTree || each instanceof MemberReferenceTree);
-                body.emit(services.doubt(own ? Method.Doubt.ANY : Method.Doubt.OPEN, called.shown(), true, body, called.at(),
+                body.emit(services.doubt(own || isLock(called) ? Method.Doubt.ANY : Method.Doubt.OPEN, called.shown(), true, body, called.at(),
                     "compound library call: " + called.shown() + " counts as several steps"));
             }
             case READS, WRITES, RUN -> new Contents(services, body).call(called.object(),
@@ -174,6 +176,12 @@ final class LibraryCalls {
         if (services.program().sure() && called.shown().equals("StampedLock.validate")) {
             // What was looked at without the lock is looked at again where this doesn't hold.
             return;
+        } else if (isLock(called)) {
+            lock(called);
+        } else if (new StableLooks(services).isStable(called)) {
+            services.hint(called.at(), "stable look: nothing is taken out of this map, so what a look has found stays so;"
+                + " it counts as a step all the same");
+            body.emit(services.program().sure() ? Part.NOTHING : services.step(called.shown(), false, called.at()));
         } else if (!called.choice().elsewhere()) {
             body.emit(services.step(called.shown(), false, called.at()));
         } else if (services.program().options().strict() || isAtHand(called)) {
@@ -183,6 +191,18 @@ final class LibraryCalls {
                 + " is given runs in another thread");
             body.emit(services.step(called.shown(), false, called.at()));
         }
+    }
+
+    private boolean isLock(Called called) {
+        return called.at() instanceof MethodInvocationTree call && call.getMethodSelect() instanceof MemberSelectTree select
+            && new Locking(services, body).isA(select.getExpression(), "java.util.concurrent.locks.Lock");
+    }
+
+    /** A lock that is taken in no form that is known: a step, unless only what is certain counts. */
+    private void lock(Called called) {
+        services.hint(called.at(), "lock and unlock stand in no form that is known here, so that " + called.shown()
+            + " counts as a step");
+        body.emit(services.program().sure() ? Part.NOTHING : services.step(called.shown(), false, called.at()));
     }
 
     /** Whether a class of the sources is one of those whose method is called. */
@@ -196,9 +216,8 @@ final class LibraryCalls {
     private void unknown(Called called) {
         if (called.at() instanceof MethodInvocationTree call && call.getMethodSelect() instanceof MemberSelectTree select
                 && services.functions().isFunction(select.getExpression())) {
-            services.tell(Notes.Kind.APPROXIMATED, body, called.at(),
-                "unknown call: " + called.shown() + " runs a function that isn't known, so it counts as several steps");
-            body.emit(services.step(called.shown(), true, called.at()));
+            body.emit(services.doubt(Method.Doubt.OPEN, called.shown(), true, body, called.at(),
+                "unknown call: " + called.shown() + " runs a function that isn't known, so it counts as several steps"));
         } else {
             body.emit(services.doubt(openness(called.at()), called.shown(), true, body, called.at(),
                 "unknown call: " + called.shown() + " may do anything, so it counts as several steps"));

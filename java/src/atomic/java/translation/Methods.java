@@ -278,7 +278,8 @@ public final class Methods {
         judgeAlone(alone, origins.get(target));
     }
 
-    private void synchronizedBody(JavaMethod method, Body body, Statements statements) {
+    /** Writes a method's statements, with the lock around them that it takes. */
+    void synchronizedBody(JavaMethod method, Body body, Statements statements) {
         BlockTree block = method.tree().getBody();
         if (!method.symbol().getModifiers().contains(Modifier.SYNCHRONIZED)) {
             statements.all(block.getStatements());

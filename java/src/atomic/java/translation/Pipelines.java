@@ -59,7 +59,8 @@ final class Pipelines {
                 && services.uses().isSettled(local) && services.uses().assignments(local).size() == 1) {
             functions(services.uses().assignments(local).get(0).value());
         } else {
-            body.emit(services.doubt(Method.Doubt.OPEN, "the stages of a stream", true, body, tree,
+            boolean here = symbol instanceof ExecutableElement;
+            body.emit(services.doubt(here ? Method.Doubt.ANY : Method.Doubt.OPEN, "the stages of a stream", true, body, tree,
                 "unknown call: the stages of this stream aren't known here, and may do anything"));
         }
     }

@@ -117,6 +117,11 @@ final class Services {
         return new Part.Call(new Value.Opaque(program.helpers()), helper, List.of(), place);
     }
 
+    /** Something that is told where it may be what a wrong alarm comes from. */
+    void hint(Tree at, String text) {
+        program.notes().hint(program.attribution().name(at), text);
+    }
+
     /** Tells something of a method at a place. */
     void tell(Notes.Kind kind, Body body, Tree at, String text) {
         program.notes().tell(kind, body.origin(), program.attribution().name(at), text);

@@ -1,0 +1,123 @@
+package atomic.java.translation;
+
+import atomic.java.library.Choice;
+import atomic.java.ownership.Uses;
+import com.sun.source.tree.AssignmentTree;
+import com.sun.source.tree.BlockTree;
+import com.sun.source.tree.ExpressionTree;
+import com.sun.source.tree.IfTree;
+import com.sun.source.tree.MemberSelectTree;
+import com.sun.source.tree.MethodInvocationTree;
+import com.sun.source.tree.MethodTree;
+import com.sun.source.tree.SynchronizedTree;
+import com.sun.source.tree.Tree;
+import com.sun.source.tree.TryTree;
+import com.sun.source.tree.VariableTree;
+import com.sun.source.util.TreeScanner;
+import java.util.List;
+import java.util.Set;
+import javax.lang.model.element.Element;
+import javax.lang.model.element.ExecutableElement;
+import javax.lang.model.element.Modifier;
+import javax.lang.model.element.VariableElement;
+
+/**
+ * Looks that may tell the same at any later time: a look into a concurrent map out of which nothing is taken, and in which
+ * nothing is put in another's place; and one at a field that is given an object once. What such a look has found stays so, and
+ * it is as if it were done later. One that found nothing doesn't tell what comes: so each of them counts as a step, and only
+ * where what is certain counts it doesn't.
+ */
+record StableLooks(Services services) {
+    private static final Set<String> LOOKS = Set.of("get", "getOrDefault");
+    private static final Set<String> ADDING = Set.of("get", "getOrDefault", "containsKey", "putIfAbsent", "computeIfAbsent",
+        "size", "isEmpty", "mappingCount", "keySet", "values", "entrySet", "forEach");
+
+    /** Whether a call is a look into a map that only grows. */
+    boolean isStable(LibraryCalls.Called called) {
+        return called.choice().kind() == Choice.Kind.STEP && called.at() instanceof MethodInvocationTree call
+            && call.getMethodSelect() instanceof MemberSelectTree select && LOOKS.contains(select.getIdentifier().toString())
+            && services.attribution().element(Uses.bare(select.getExpression())) instanceof VariableElement field
+            && isHidden(field) && services.fields().isSettled(field)
+            && isMap(services.attribution().element(call))
+            && services.uses().of(field).stream().allMatch(this::adds);
+    }
+
+    private static boolean isMap(Element method) {
+        return method instanceof ExecutableElement symbol && symbol.getEnclosingElement().getSimpleName().toString().endsWith("Map");
+    }
+
+    private boolean isHidden(VariableElement field) {
+        return field.getKind().isField() && field.getModifiers().contains(Modifier.PRIVATE)
+            && services.program().find(field.getEnclosingElement()) != null && !services.uses().isReflected(field);
+    }
+
+    /** Whether a use of a map takes nothing out: a {@code put} stands in a region that has looked for its key before. */
+    private boolean adds(Tree use) {
+        if (!(services.attribution().parent(use) instanceof MemberSelectTree select)
+                || !(services.attribution().parent(select) instanceof MethodInvocationTree call)) {
+            return services.uses().isTarget(use);
+        }
+        String name = select.getIdentifier().toString();
+        return ADDING.contains(name) || name.equals("put") && looksBefore(call, select.getExpression().toString());
+    }
+
+    private boolean looksBefore(MethodInvocationTree put, String map) {
+        Tree region = region(put);
+        boolean[] found = new boolean[1];
+        new TreeScanner<Void, Void>() {
+            @Override
+            public Void visitMethodInvocation(MethodInvocationTree call, Void nothing) {
+                String name = call.getMethodSelect().toString();
+                boolean before = services.attribution().start(call) < services.attribution().start(put);
+                found[0] |= before && (name.equals(map + ".containsKey") || name.equals(map + ".get"));
+                return super.visitMethodInvocation(call, nothing);
+            }
+        }.scan(region, null);
+        return region != null && found[0];
+    }
+
+    /** The innermost region of a lock around a tree, or null. */
+    private Tree region(Tree tree) {
+        Tree each = services.attribution().parent(tree);
+        while (each != null && !(each instanceof MethodTree)) {
+            boolean locks = each instanceof SynchronizedTree
+                || each instanceof TryTree tried && tried.getFinallyBlock() != null && unlocks(tried.getFinallyBlock());
+            if (locks) {
+                return each;
+            }
+            each = services.attribution().parent(each);
+        }
+        return each instanceof MethodTree method && method.getModifiers().getFlags().contains(Modifier.SYNCHRONIZED) ? each : null;
+    }
+
+    private static boolean unlocks(BlockTree block) {
+        return block.getStatements().stream().anyMatch(each -> each.toString().contains(".unlock"));
+    }
+
+    /** Whether a field is volatile and set in one place, in a region that looks first whether it is set. */
+    boolean isSetOnce(VariableElement field) {
+        if (!isHidden(field) || !field.getModifiers().contains(Modifier.VOLATILE) || field.asType().getKind().isPrimitive()) {
+            return false;
+        }
+        List<Uses.Assignment> all = services.uses().assignments(field).stream().filter(each ->
+            !(each.tree() instanceof VariableTree) || each.value() != null && !isNull(each.value())).toList();
+        return all.size() == 1 && all.get(0).value() != null && !isNull(all.get(0).value())
+            && region(all.get(0).tree()) != null && isTested(all.get(0).tree());
+    }
+
+    private static boolean isNull(ExpressionTree value) {
+        ExpressionTree bare = Uses.bare(value);
+        return bare.getKind() == Tree.Kind.NULL_LITERAL
+            || bare instanceof AssignmentTree assignment && isNull(assignment.getExpression());
+    }
+
+    /** Whether an assignment stands under a test, within the region. */
+    private boolean isTested(Tree tree) {
+        Tree region = region(tree);
+        Tree each = tree;
+        while (each != region && !(each instanceof IfTree)) {
+            each = services.attribution().parent(each);
+        }
+        return each != region;
+    }
+}
