@@ -126,8 +126,9 @@ public final class Run {
             new Doubts(all).run();
         }
         new Unwritten(all).run();
-        new Waiting(all, program.notes(), methods::origin, methods.wait(null)).strictly(options.strict()).run();
-        Inference inference = new Inference(all, options.majority());
+        new Waiting(all, program.notes(), methods::origin, methods.wait(null)).strictly(options.strict())
+            .apart(methods::copy).run();
+        Inference inference = new Inference(all, options.majority(), program.sure());
         if (options.infer() || options.majority()) {
             inference.guards(program.names(), program.notes());
         }

@@ -29,6 +29,7 @@ public final class Inference {
 
     private final Collection<Method> methods;
     private final boolean majority;
+    private final boolean sure;
     private final Map<Field, Tally> tallies = new LinkedHashMap<>();
     private UnderLock underLock;
 
@@ -44,9 +45,11 @@ public final class Inference {
         private final Map<List<Field>, Integer> heldWriting = new HashMap<>();
     }
 
-    public Inference(Collection<Method> methods, boolean majority) {
+    /** Where only what is {@code sure} counts, a change that holds its lock is one step. */
+    public Inference(Collection<Method> methods, boolean majority, boolean sure) {
         this.methods = methods;
         this.majority = majority;
+        this.sure = sure;
     }
 
     /** Gives guards to the fields that have none, and tells of accesses that keep a field from having one. */
@@ -60,6 +63,7 @@ public final class Inference {
                 field.guard(new Field.Guard(lock, false));
             } else if (writing != null) {
                 field.guard(new Field.Guard(writing, true));
+                field.changesWhole(sure);
             }
             if (lock == null && field.mayBeGuarded() && field.place() != null) {
                 races(field, tally, names, notes);

@@ -34,6 +34,9 @@ public final class Races {
                 if (field.wide() && !field.isContents()) {
                     notes.hint(field.place(), "two halves: " + names.shown(field.name())
                         + " has 64 bits, so that one access counts as two, which most machines do in one");
+                } else if (field.wide() && field.guard() != null) {
+                    notes.hint(field.place(), "half a change: " + names.shown(field.name())
+                        + " is looked at without the lock that its changes hold, so that one change counts as several steps");
                 }
             }
         }

@@ -9,11 +9,14 @@ import atomic.java.skeleton.Shape;
 import java.util.Collection;
 import java.util.HashMap;
 import java.util.HashSet;
+import java.util.LinkedHashMap;
 import java.util.LinkedHashSet;
 import java.util.List;
 import java.util.Map;
 import java.util.Set;
 import java.util.function.Function;
+import java.util.function.UnaryOperator;
+import java.util.stream.Stream;
 
 /**
  * Waits. A wait gives its lock back and takes it again. In a loop that only looks, at the beginning of a region, what came
@@ -29,6 +32,7 @@ public final class Waiting {
     private final Set<Method> looking = new HashSet<>();
     private final Map<Method, Set<Shape>> held = new HashMap<>();
     private final Callees callees;
+    private UnaryOperator<Method> copier;
 
     /** The waits of all methods; {@code compound} is the call that a wait in another place becomes. */
     public Waiting(Collection<Method> methods, Notes notes, Function<Method, Object> origin, Part.Call compound) {
@@ -45,6 +49,12 @@ public final class Waiting {
         return this;
     }
 
+    /** A caller at hand that may hold the lock calls a copy of the method that waits, which this makes. */
+    public Waiting apart(UnaryOperator<Method> copies) {
+        copier = copies;
+        return this;
+    }
+
     /** Takes the waits out of all methods. */
     public void run() {
         if (methods.stream().noneMatch(method -> waits(method.body()))) {
@@ -52,11 +62,57 @@ public final class Waiting {
         }
         findLooking();
         findHeld();
+        if (copier != null) {
+            findCopies();
+        }
         for (Method method : methods) {
             if (waits(method.body())) {
                 method.body(new Walk(method).part(method.body(), new State()));
             }
         }
+    }
+
+    /** Who holds the lock waits within his region, and who doesn't waits at its beginning: so these are two methods. */
+    private void findCopies() {
+        Map<Method, Method> copies = new LinkedHashMap<>();
+        for (Method method : methods) {
+            boolean alone = callees.of(method).size() == 1 && method.overridden().isEmpty() && method.required().isEmpty();
+            if (alone && waitsFor(method.body()).anyMatch(lock -> isHeld(method, lock))) {
+                copies.put(method, copier.apply(method));
+            }
+        }
+        if (!copies.isEmpty()) {
+            methods.addAll(copies.values());
+            methods.forEach(method -> method.body(redirected(method.body(), held.getOrDefault(method, Set.of()), copies)));
+            looking.addAll(copies.values().stream().filter(each -> looks(each.body())).toList());
+            held.clear();
+            findHeld();
+        }
+    }
+
+    private static Stream<Path> waitsFor(Part part) {
+        return part instanceof Part.Wait wait ? Stream.ofNullable(wait.lock()) : part.parts().stream().flatMap(Waiting::waitsFor);
+    }
+
+    /** A part whose calls go to the copies, where one of these locks may be the one that is waited for. */
+    private static Part redirected(Part part, Set<Shape> locks, Map<Method, Method> copies) {
+        if (part instanceof Part.Call call && copies.containsKey(call.target())
+                && waitsFor(call.target().body()).anyMatch(lock -> mayBe(locks, lock))) {
+            return new Part.Call(call.receiver(), copies.get(call.target()), call.arguments(), call.place());
+        }
+        Set<Shape> inside = new HashSet<>(locks);
+        if (part instanceof Part.Region region && region.lock() != null) {
+            inside.add(region.lock().type());
+        }
+        return part.map(each -> redirected(each, inside, copies));
+    }
+
+    private boolean isHeld(Method method, Path lock) {
+        return mayBe(held.get(method), lock);
+    }
+
+    private static boolean mayBe(Set<Shape> locks, Path lock) {
+        return locks.stream().anyMatch(each -> each == null || each.fits(lock.type()) || lock.type().fits(each));
     }
 
     private static boolean waits(Part part) {
@@ -205,8 +261,7 @@ public final class Waiting {
         }
 
         private boolean mayBeHeld(Path lock) {
-            return held.get(method).stream().anyMatch(each -> each == null || each.fits(lock.type())
-                || lock.type().fits(each));
+            return isHeld(method, lock);
         }
 
         private Part refuse(Part.Wait wait, String why) {

@@ -141,4 +141,9 @@ public final class Field {
     public void widen() {
         wide = true;
     }
+
+    /** Whether one change that holds its lock is one step, whoever looks without it. */
+    public void changesWhole(boolean whole) {
+        wide &= !whole;
+    }
 }

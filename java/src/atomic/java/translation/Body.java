@@ -37,6 +37,7 @@ final class Body {
     private List<Part> sink = new ArrayList<>();
     private int depth;
     private JavaClass starting;
+    private boolean locksSomehow;
 
     /** A body of {@code target}; up to the offset {@code freshUntil} no other thread knows its object. */
     Body(Services services, Method target, Owner owner, long freshUntil) {
@@ -46,6 +47,16 @@ final class Body {
         this.freshUntil = freshUntil;
         leavings = new Leavings(services);
         target.parameters().forEach(each -> taken.add(each.name()));
+    }
+
+    /** A lock is taken here in no form that is known. */
+    void locksSomehow() {
+        locksSomehow = true;
+    }
+
+    /** Whether a lock may be held anywhere here, since one is taken in no form that is known. */
+    boolean mayHoldAny() {
+        return locksSomehow;
     }
 
     /** This body is the static initialiser of a class, whose static fields nobody else knows yet. */

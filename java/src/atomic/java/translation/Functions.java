@@ -207,7 +207,7 @@ final class Functions {
             } else if (services.program().find(services.attribution().type(bare)) != null) {
                 part = body.collect(() -> new Comparisons(services, body).comparator(bare, at));
             } else if (isFunction(bare)) {
-                part = services.doubt(Method.Doubt.OPEN, "a function that isn't known", true, body, bare,
+                part = services.doubt(Method.Doubt.ANY, "a function that isn't known", true, body, bare,
                     "unknown call: a function that isn't known may do anything");
             }
             Part further = body.collect(() -> new Pipelines(services, body).givenBy(bare));

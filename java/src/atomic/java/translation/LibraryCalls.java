@@ -182,6 +182,14 @@ final class LibraryCalls {
             services.hint(called.at(), "stable look: nothing is taken out of this map, so what a look has found stays so;"
                 + " it counts as a step all the same");
             body.emit(services.program().sure() ? Part.NOTHING : services.step(called.shown(), false, called.at()));
+        } else if (new StableLooks(services).isUnderLock(called)) {
+            services.hint(called.at(), "look under a lock: some of what changes this object holds a lock, so that a look within"
+                + " a region may tell the same later; it counts as a step all the same");
+            body.emit(services.look(called.shown(), called.at()));
+        } else if (starts(called)) {
+            services.hint(called.at(), "start: a thread that is started may run at any later time, so its start may be moved;"
+                + " it counts as a step all the same");
+            body.emit(services.program().sure() ? Part.NOTHING : services.step(called.shown(), false, called.at()));
         } else if (!called.choice().elsewhere()) {
             body.emit(services.step(called.shown(), false, called.at()));
         } else if (services.program().options().strict() || isAtHand(called)) {
@@ -193,6 +201,12 @@ final class LibraryCalls {
         }
     }
 
+    private boolean starts(Called called) {
+        Element symbol = services.attribution().element(called.at());
+        return symbol != null && symbol.getSimpleName().contentEquals("start")
+            && symbol.getEnclosingElement().toString().equals("java.lang.Thread");
+    }
+
     private boolean isLock(Called called) {
         return called.at() instanceof MethodInvocationTree call && call.getMethodSelect() instanceof MemberSelectTree select
             && new Locking(services, body).isA(select.getExpression(), "java.util.concurrent.locks.Lock");
@@ -200,6 +214,7 @@ final class LibraryCalls {
 
     /** A lock that is taken in no form that is known: a step, unless only what is certain counts. */
     private void lock(Called called) {
+        body.locksSomehow();
         services.hint(called.at(), "lock and unlock stand in no form that is known here, so that " + called.shown()
             + " counts as a step");
         body.emit(services.program().sure() ? Part.NOTHING : services.step(called.shown(), false, called.at()));
@@ -216,7 +231,7 @@ final class LibraryCalls {
     private void unknown(Called called) {
         if (called.at() instanceof MethodInvocationTree call && call.getMethodSelect() instanceof MemberSelectTree select
                 && services.functions().isFunction(select.getExpression())) {
-            body.emit(services.doubt(Method.Doubt.OPEN, called.shown(), true, body, called.at(),
+            body.emit(services.doubt(Method.Doubt.ANY, called.shown(), true, body, called.at(),
                 "unknown call: " + called.shown() + " runs a function that isn't known, so it counts as several steps"));
         } else {
             body.emit(services.doubt(openness(called.at()), called.shown(), true, body, called.at(),

@@ -7,11 +7,14 @@ import com.sun.source.tree.BinaryTree;
 import com.sun.source.tree.BlockTree;
 import com.sun.source.tree.ConditionalExpressionTree;
 import com.sun.source.tree.ExpressionTree;
+import com.sun.source.tree.MemberSelectTree;
 import com.sun.source.tree.StatementTree;
 import com.sun.source.tree.SynchronizedTree;
 import com.sun.source.tree.Tree;
 import com.sun.source.tree.VariableTree;
+import java.util.HashMap;
 import java.util.List;
+import java.util.Map;
 import javax.lang.model.element.VariableElement;
 
 /**
@@ -36,10 +39,7 @@ final class LockPairs {
         if (inside.size() != 1 || !(inside.get(0) instanceof SynchronizedTree inner)) {
             return false;
         }
-        VariableElement one = local(outer.getExpression());
-        VariableElement other = local(inner.getExpression());
-        List<ExpressionTree> pair = one == null || other == null ? List.of() : pair(one, other);
-        pair = pair.isEmpty() && one != null && other != null ? pair(other, one) : pair;
+        List<ExpressionTree> pair = pair(outer.getExpression(), inner.getExpression());
         if (pair.isEmpty()) {
             return false;
         }
@@ -56,6 +56,30 @@ final class LockPairs {
         return true;
     }
 
+    /**
+     * Writes regions of two locks with methods, {@code first.lock.lock(); try { second.lock.lock(); ..}}, of which nothing
+     * stands between the two: within them {@code first} and {@code second} count as a and b.
+     */
+    void named(ExpressionTree outer, ExpressionTree inner, Runnable regions) {
+        List<ExpressionTree> pair = inner != null && outer instanceof MemberSelectTree one
+            && inner instanceof MemberSelectTree other && one.getIdentifier().equals(other.getIdentifier())
+            ? pair(one.getExpression(), other.getExpression()) : List.of();
+        Map<VariableElement, Value> before = new HashMap<>(body.locals());
+        if (!pair.isEmpty()) {
+            body.locals().put(local(((MemberSelectTree) outer).getExpression()), new Locking(services, body).object(pair.get(0)));
+            body.locals().put(local(((MemberSelectTree) inner).getExpression()), new Locking(services, body).object(pair.get(1)));
+        }
+        regions.run();
+        body.locals().putAll(before);
+    }
+
+    private List<ExpressionTree> pair(ExpressionTree outer, ExpressionTree inner) {
+        VariableElement one = local(outer);
+        VariableElement other = local(inner);
+        List<ExpressionTree> pair = one == null || other == null ? List.of() : pair(one, other);
+        return pair.isEmpty() && one != null && other != null ? pair(other, one) : pair;
+    }
+
     /** The two variables that {@code first} and {@code second} are, whichever is which; none where that isn't sure. */
     private List<ExpressionTree> pair(VariableElement first, VariableElement second) {
         if (!(value(first) instanceof ConditionalExpressionTree chosen)
@@ -64,19 +88,19 @@ final class LockPairs {
         }
         ExpressionTree a = Uses.bare(chosen.getTrueExpression());
         ExpressionTree b = Uses.bare(chosen.getFalseExpression());
-        VariableElement left = local(a);
-        VariableElement right = local(b);
-        if (left == null || right == null || left == right
+        Object left = name(a);
+        Object right = name(b);
+        if (left == null || right == null || left.equals(right)
                 || !(Uses.bare(rest.getCondition()) instanceof BinaryTree compared)) {
             return List.of();
         }
         boolean equal = compared.getKind() == Tree.Kind.EQUAL_TO;
-        VariableElement same = local(compared.getLeftOperand()) == first ? local(compared.getRightOperand())
-            : local(compared.getRightOperand()) == first ? local(compared.getLeftOperand()) : null;
-        VariableElement whereSame = local(equal ? rest.getTrueExpression() : rest.getFalseExpression());
-        VariableElement whereNot = local(equal ? rest.getFalseExpression() : rest.getTrueExpression());
-        boolean sure = (equal || compared.getKind() == Tree.Kind.NOT_EQUAL_TO) && (same == left || same == right)
-            && whereNot == same && whereSame == (same == left ? right : left);
+        Object same = local(compared.getLeftOperand()) == first ? name(compared.getRightOperand())
+            : local(compared.getRightOperand()) == first ? name(compared.getLeftOperand()) : null;
+        Object whereSame = name(equal ? rest.getTrueExpression() : rest.getFalseExpression());
+        Object whereNot = name(equal ? rest.getFalseExpression() : rest.getTrueExpression());
+        boolean sure = (equal || compared.getKind() == Tree.Kind.NOT_EQUAL_TO) && (left.equals(same) || right.equals(same))
+            && same.equals(whereNot) && (left.equals(same) ? right : left).equals(whereSame);
         return sure ? List.of(a, b) : List.of();
     }
 
@@ -84,6 +108,11 @@ final class LockPairs {
     private ExpressionTree value(VariableElement local) {
         VariableTree tree = services.uses().declaration(local);
         return tree == null || tree.getInitializer() == null ? null : Uses.bare(tree.getInitializer());
+    }
+
+    /** What names an object: {@code this}, or a local or parameter that keeps its value; else null. */
+    private Object name(ExpressionTree tree) {
+        return Uses.bare(tree).toString().equals("this") ? "this" : local(tree);
     }
 
     /** The local or parameter that an expression names and that keeps its value, or null. */

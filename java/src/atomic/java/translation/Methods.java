@@ -256,6 +256,9 @@ public final class Methods {
             }
             synchronizedBody(method, body, statements);
         }));
+        if (services.program().sure() && body.mayHoldAny()) {
+            target.body(Part.NOTHING);
+        }
         if (method.owner().isInterface() && key.self() == method.owner() && !method.isStatic()) {
             target.body(new Dispatch(services).join(target.body(), method, key.self(), body));
         }
@@ -267,15 +270,22 @@ public final class Methods {
             target.promiseAtomic();
             return;
         }
-        String java = services.program().names().shown(target.name());
-        Method alone = new Method(target.owner(), services.program().names().invent(java, java), target.place());
-        alone.parameters().addAll(target.parameters());
-        alone.required().addAll(target.required());
-        alone.loose().addAll(target.loose());
-        alone.body(target.body());
+        Method alone = copy(target);
         alone.promiseAtomic();
-        target.owner().methods().add(alone);
         judgeAlone(alone, origins.get(target));
+    }
+
+    /** A second method of the same body, which isn't judged for its own sake. */
+    public Method copy(Method target) {
+        String java = services.program().names().shown(target.name());
+        Method copy = new Method(target.owner(), services.program().names().invent(java, java), target.place());
+        copy.parameters().addAll(target.parameters());
+        copy.required().addAll(target.required());
+        copy.loose().addAll(target.loose());
+        copy.body(target.body());
+        target.owner().methods().add(copy);
+        origins.put(copy, origins.get(target));
+        return copy;
     }
 
     /** Writes a method's statements, with the lock around them that it takes. */

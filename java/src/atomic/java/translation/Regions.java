@@ -44,11 +44,25 @@ final class Regions {
         if (length == 0) {
             services.tell(Notes.Kind.APPROXIMATED, body, locks.get(0), "lock and unlock stand in no form that is known here,"
                 + " so the lock counts as never held");
+            body.locksSomehow();
             return services.program().sure() ? open(statement, locks, rest) : 0;
         }
-        held(taken(locks), statement, () -> inside(locks, rest.subList(0, length)));
+        new LockPairs(services, body, statements).named(locks.get(0), next(locks, rest.subList(0, length)), () ->
+            held(taken(locks), statement, () -> inside(locks, rest.subList(0, length))));
         behind(locks, rest.get(length - 1));
         return length;
+    }
+
+    /** The lock that the first statement of a region takes, where it takes one and nothing else stands in the region. */
+    private ExpressionTree next(List<ExpressionTree> locks, List<? extends StatementTree> region) {
+        if (locks.size() != 1 || region.size() != 1 || !(region.get(0) instanceof TryTree tried)
+                || !tried.getResources().isEmpty() || !tried.getCatches().isEmpty()
+                || tried.getFinallyBlock().getStatements().size() != 1) {
+            return null;
+        }
+        List<? extends StatementTree> all = tried.getBlock().getStatements();
+        List<ExpressionTree> inner = all.isEmpty() ? List.of() : locking.operands(all.get(0), TAKES);
+        return inner.size() == 1 && length(inner, all.subList(1, all.size())) == all.size() - 1 ? inner.get(0) : null;
     }
 
     /**

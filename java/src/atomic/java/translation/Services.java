@@ -93,6 +93,11 @@ final class Services {
         return helper(shown, compound, Method.Doubt.NONE, program.attribution().name(at));
     }
 
+    /** A look that may be no step where some lock is held. */
+    Part look(String shown, Tree at) {
+        return helper(shown, false, program.sure() ? Method.Doubt.OPEN : Method.Doubt.NONE, program.attribution().name(at));
+    }
+
     /** The same of what counts as more than it may be, and that is told. */
     Part doubt(Method.Doubt doubt, String shown, boolean compound, Body body, Tree at, String why) {
         tell(Notes.Kind.APPROXIMATED, body, at, why);

@@ -29,6 +29,8 @@ import javax.lang.model.element.VariableElement;
  */
 record StableLooks(Services services) {
     private static final Set<String> LOOKS = Set.of("get", "getOrDefault");
+    private static final Set<String> ALL_LOOKS = Set.of("get", "getPlain", "getAcquire", "getOpaque", "intValue", "longValue",
+        "getOrDefault", "containsKey", "contains", "isEmpty", "peek", "peekFirst", "peekLast", "size", "length");
     private static final Set<String> ADDING = Set.of("get", "getOrDefault", "containsKey", "putIfAbsent", "computeIfAbsent",
         "size", "isEmpty", "mappingCount", "keySet", "values", "entrySet", "forEach");
 
@@ -40,6 +42,21 @@ record StableLooks(Services services) {
             && isHidden(field) && services.fields().isSettled(field)
             && isMap(services.attribution().element(call))
             && services.uses().of(field).stream().allMatch(this::adds);
+    }
+
+    /** Whether a call only looks at an object in a hidden field which some other call changes while it holds a lock. */
+    boolean isUnderLock(LibraryCalls.Called called) {
+        return called.at() instanceof MethodInvocationTree call && call.getMethodSelect() instanceof MemberSelectTree select
+            && ALL_LOOKS.contains(select.getIdentifier().toString())
+            && services.attribution().element(Uses.bare(select.getExpression())) instanceof VariableElement field
+            && isHidden(field) && services.fields().isSettled(field)
+            && services.uses().of(field).stream().anyMatch(this::changesInRegion);
+    }
+
+    private boolean changesInRegion(Tree use) {
+        return services.attribution().parent(use) instanceof MemberSelectTree select
+            && services.attribution().parent(select) instanceof MethodInvocationTree
+            && !ALL_LOOKS.contains(select.getIdentifier().toString()) && region(use) != null;
     }
 
     private static boolean isMap(Element method) {

@@ -61,6 +61,11 @@ final class Statements extends SimpleTreeVisitor<Void, Void> {
         for (int k = 0; k < statements.size(); k++) {
             StatementTree statement = statements.get(k);
             List<? extends StatementTree> rest = statements.subList(k + 1, statements.size());
+            int asked = new SecondLooks(services, regions).first(statements.subList(k, statements.size()));
+            if (asked > 0 && services.program().sure()) {
+                k += asked - 1;
+                continue;
+            }
             int looked = body.depth() > DEEPEST ? 0
                 : new Rechecks(services, body, this, regions).write(statements.subList(k, statements.size()));
             int locked = looked > 0 ? looked - 1 : regions.region(statement, rest);
