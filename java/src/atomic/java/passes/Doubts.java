@@ -10,7 +10,7 @@ import java.util.Collection;
  * parts do. A call of code that others bring stays only where no lock can be held, since nothing keeps others away
  * then. An access of a field that may have a guard goes where the lock may be held under another name: that of an
  * object without a name, of a node that may be new, one of a field that leads to the same object (see {@link OtherNames}),
- * and in a method that is only called where some lock is held.
+ * and in a method that is only called where some lock is held. A region that touches no field changes nothing.
  */
 public final class Doubts {
     private final Collection<Method> methods;
@@ -39,7 +39,12 @@ public final class Doubts {
             return isCertain(access, dark) && !names.mayBeHeld(access) ? access : Part.NOTHING;
         }
         boolean region = part instanceof Part.Region;
-        return part.map(each -> without(each, held || region, dark && !region));
+        Part rest = part.map(each -> without(each, held || region, dark && !region));
+        return rest instanceof Part.Region left && left.body().isNothing() && !touches(part) ? Part.NOTHING : rest;
+    }
+
+    private static boolean touches(Part part) {
+        return part instanceof Part.Access || part.parts().stream().anyMatch(Doubts::touches);
     }
 
     private static boolean isDoubtful(Method.Doubt doubt, boolean held) {

@@ -38,6 +38,7 @@ final class Body {
     private int depth;
     private JavaClass starting;
     private boolean locksSomehow;
+    private final List<Path> monitors = new ArrayList<>();
 
     /** A body of {@code target}; up to the offset {@code freshUntil} no other thread knows its object. */
     Body(Services services, Method target, Owner owner, long freshUntil) {
@@ -47,6 +48,19 @@ final class Body {
         this.freshUntil = freshUntil;
         leavings = new Leavings(services);
         target.parameters().forEach(each -> taken.add(each.name()));
+    }
+
+    /** What is done while the monitor of an object is held, as one part. */
+    Part holding(Path monitor, Runnable work) {
+        monitors.add(monitor);
+        Part part = collect(work);
+        monitors.remove(monitors.size() - 1);
+        return part;
+    }
+
+    /** Whether the monitor of an object is held here. */
+    boolean holds(Path monitor) {
+        return monitor != null && monitors.contains(monitor);
     }
 
     /** A lock is taken here in no form that is known. */

@@ -81,12 +81,11 @@ final class Contents {
             && services.program().method(services.attribution().element(each)) != null);
     }
 
-    /** What a chain of a library's calls on a stream begins with. */
+    /** What a chain of a library's calls begins with. */
     private ExpressionTree begins(ExpressionTree tree) {
         ExpressionTree each = Uses.bare(tree);
         while (each instanceof MethodInvocationTree call && call.getMethodSelect() instanceof MemberSelectTree select
-                && services.program().method(services.attribution().element(call)) == null
-                && new Pipelines(services, body).isStream(services.attribution().type(select.getExpression()))) {
+                && services.program().method(services.attribution().element(call)) == null) {
             each = Uses.bare(select.getExpression());
         }
         return each;

@@ -18,6 +18,7 @@ import com.sun.source.tree.NewClassTree;
 import com.sun.source.tree.Tree;
 import java.util.ArrayList;
 import java.util.List;
+import java.util.Set;
 import javax.lang.model.element.Element;
 import javax.lang.model.element.ElementKind;
 import javax.lang.model.element.ExecutableElement;
@@ -29,6 +30,10 @@ import javax.lang.model.type.TypeMirror;
 
 /** Calls of methods that aren't at hand, as the table of library classes says. */
 final class LibraryCalls {
+    /** Classes whose methods take the monitor of their object for all that they do with it. */
+    private static final Set<String> OWN_MONITOR = Set.of("java.lang.StringBuffer", "java.util.Vector", "java.util.Stack",
+        "java.util.Hashtable", "java.util.Collections.Synchronized");
+
     private final Services services;
     private final Body body;
     private final Expressions expressions;
@@ -137,6 +142,11 @@ final class LibraryCalls {
                 called.arguments().forEach(each -> joined(each, called.at()));
             }
         }
+        if (isWithinOwnMonitor(called)) {
+            body.emit(new Part.Region(called.object().path(), Part.Mode.EXCLUSIVE, Part.NOTHING,
+                services.attribution().name(called.at())));
+            return;
+        }
         switch (choice.kind()) {
             case PURE, VIEW, PIPE -> { }
             case ASSUMED -> {
@@ -163,6 +173,19 @@ final class LibraryCalls {
             body.over(called.object(), () -> services.functions().callAll(called.arguments(), body, called.at(),
                 choice.once()));
         }
+    }
+
+    /** Whether a call only takes the monitor of its object, which is held already: then nobody else can see it. */
+    private boolean isWithinOwnMonitor(Called called) {
+        if (!body.holds(called.object().path()) || called.choice().kind() != Choice.Kind.STEP
+                || !(called.at() instanceof MethodInvocationTree call)
+                || !(call.getMethodSelect() instanceof MemberSelectTree select)) {
+            return false;
+        }
+        String made = services.attribution().element(Uses.bare(select.getExpression())) instanceof VariableElement variable
+            ? services.ownership().made(variable) : null;
+        String type = services.attribution().types().erasure(services.attribution().type(select.getExpression())).toString();
+        return OWN_MONITOR.contains(type) || made != null && OWN_MONITOR.contains(made);
     }
 
     /** Whether a call tries again by itself until nobody came in between, with a function that has no step. */
@@ -264,8 +287,8 @@ final class LibraryCalls {
             return !called.shown().endsWith(".clone") || isMadeNew(called) ? new Value.Fresh(null) : Value.OPAQUE;
         } else if (choice.kind() == Choice.Kind.VIEW || choice.kind() == Choice.Kind.PIPE) {
             return isStatic ? values.isEmpty() ? new Value.Fresh(null) : values.get(0) : called.object();
-        } else if (called.shown().startsWith("StringBuilder.") && services.attribution().type(called.at()).toString()
-                .equals("java.lang.StringBuilder")) {
+        } else if (called.shown().startsWith("StringBu") && services.attribution().type(called.at()).toString()
+                .equals("java.lang." + called.shown().substring(0, called.shown().indexOf('.')))) {
             return called.object();
         } else if (called.shown().endsWith(".readLock") || called.shown().endsWith(".writeLock")) {
             return called.object();

@@ -1,7 +1,9 @@
 package atomic.java.translation;
 
 import atomic.java.ownership.Uses;
+import com.sun.source.tree.AssignmentTree;
 import com.sun.source.tree.BlockTree;
+import com.sun.source.tree.ExpressionStatementTree;
 import com.sun.source.tree.ExpressionTree;
 import com.sun.source.tree.IdentifierTree;
 import com.sun.source.tree.IfTree;
@@ -46,13 +48,20 @@ final class SecondLooks {
         List<? extends StatementTree> inside = regions.inside(rest, false);
         boolean again = inside != null && inside.stream().limit(FIRST).anyMatch(IfTree.class::isInstance);
         boolean dropped = kept == null || services.attribution().element(kept) instanceof VariableElement local
-            && mentions(branch.getCondition(), local) && !mentions(rest, local);
+            && mentions(branch.getCondition(), local) && (!mentions(rest, local) || isGivenAnew(inside, local));
         if (!again || !dropped) {
             return 0;
         }
         services.hint(kept == null ? branch.getCondition() : kept, "second look: the region behind this asks again, so that"
             + " what is asked first may decide nothing; it counts as a step all the same");
         return at + 1;
+    }
+
+    /** Whether a region begins by giving a local a value of its own. */
+    private boolean isGivenAnew(List<? extends StatementTree> inside, VariableElement local) {
+        return inside != null && !inside.isEmpty() && inside.get(0) instanceof ExpressionStatementTree first
+            && first.getExpression() instanceof AssignmentTree given && !mentions(given.getExpression(), local)
+            && services.attribution().element(given.getVariable()) == local;
     }
 
     private static boolean asks(ExpressionTree tree) {

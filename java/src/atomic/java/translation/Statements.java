@@ -264,7 +264,7 @@ final class Statements extends SimpleTreeVisitor<Void, Void> {
         ExpressionTree operand = Uses.bare(tree.getExpression());
         Locking.Lock lock = new Locking(services, body).monitor(operand);
         Value object = operand.getKind() == Tree.Kind.IDENTIFIER ? new Locking(services, body).object(operand) : null;
-        Part inside = part(tree.getBlock());
+        Part inside = body.holding(lock.path(), () -> one(tree.getBlock()));
         body.emit(object instanceof Value.Fresh ? inside
             : new Part.Region(lock.path(), Part.Mode.EXCLUSIVE, inside, services.attribution().place(tree)));
         return null;
