@@ -57,7 +57,7 @@ public final class Inference {
         underLock = new UnderLock(methods);
         new Held(methods).visit(this::count);
         tallies.forEach((field, tally) -> {
-            List<Field> lock = field.mayBeGuarded() ? best(tally.held, tally.all) : null;
+            List<Field> lock = field.mayBeGuarded() || sure && field.ordered() ? best(tally.held, tally.all) : null;
             List<Field> writing = best(tally.heldWriting, tally.writes);
             if (lock != null) {
                 field.guard(new Field.Guard(lock, false));

@@ -49,7 +49,8 @@ final class Contents {
     /** A call that looks at an object's contents or changes them; of an object that others may know it is compound. */
     void call(Value object, boolean write, Tree at, String shown) {
         if (!known(object, write, at, shown)) {
-            body.emit(services.doubt(doubt(object, at), shown, true, body, at,
+            Method.Doubt doubt = shown.startsWith("Entry.") ? Method.Doubt.ANY : doubt(object, at);
+            body.emit(services.doubt(doubt, shown, true, body, at,
                 "object of others: other threads may know the object of " + shown
                     + ", so the call counts as several steps"));
         }

@@ -10,6 +10,7 @@ import atomic.java.program.Program;
 import atomic.java.skeleton.Field;
 import atomic.java.skeleton.Path;
 import atomic.java.skeleton.Shape;
+import atomic.java.skeleton.Value;
 import com.sun.source.tree.BlockTree;
 import com.sun.source.tree.ClassTree;
 import com.sun.source.tree.ExpressionTree;
@@ -106,6 +107,11 @@ public final class Fields {
             }
         }
         return known;
+    }
+
+    /** What a field holds that never changes, or shows the parts of it: to look at it is no step. */
+    Value unchanging(VariableElement java) {
+        return new Value.Owned(new Value.Fresh(null), contents(java).field(), null);
     }
 
     /** The functions that compare the elements of the collection whose contents a field stands for. */

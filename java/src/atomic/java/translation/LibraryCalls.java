@@ -34,6 +34,10 @@ final class LibraryCalls {
     private static final Set<String> OWN_MONITOR = Set.of("java.lang.StringBuffer", "java.util.Vector", "java.util.Stack",
         "java.util.Hashtable", "java.util.Collections.Synchronized");
 
+    /** What shows the parts of an object. */
+    private static final Set<String> SHOWING = Set.of("keySet", "values", "entrySet", "iterator", "listIterator", "stream",
+        "subList", "spliterator");
+
     private final Services services;
     private final Body body;
     private final Expressions expressions;
@@ -162,7 +166,7 @@ final class LibraryCalls {
                 }
                 boolean own = choice.runsFunctions() && called.arguments().stream().map(Uses::bare).anyMatch(each ->
                     each instanceof LambdaExpressionTree || each instanceof MemberReferenceTree);
-                body.emit(services.doubt(own || isLock(called) ? Method.Doubt.ANY : Method.Doubt.OPEN, called.shown(), true, body, called.at(),
+                body.emit(services.doubt(own || isLock(called) || new StableLooks(services).counts(called) ? Method.Doubt.ANY : Method.Doubt.OPEN, called.shown(), true, body, called.at(),
                     "compound library call: " + called.shown() + " counts as several steps"));
             }
             case READS, WRITES, RUN -> new Contents(services, body).call(called.object(),
@@ -232,6 +236,7 @@ final class LibraryCalls {
 
     private boolean isLock(Called called) {
         return called.at() instanceof MethodInvocationTree call && call.getMethodSelect() instanceof MemberSelectTree select
+            && select.getIdentifier().toString().toLowerCase(java.util.Locale.ROOT).contains("lock")
             && new Locking(services, body).isA(select.getExpression(), "java.util.concurrent.locks.Lock");
     }
 
@@ -285,6 +290,8 @@ final class LibraryCalls {
         Choice choice = called.choice();
         if (choice.makes() != null) {
             return !called.shown().endsWith(".clone") || isMadeNew(called) ? new Value.Fresh(null) : Value.OPAQUE;
+        } else if (immutable(called) != null && SHOWING.contains(name(called))) {
+            return services.fields().unchanging(immutable(called));
         } else if (choice.kind() == Choice.Kind.VIEW || choice.kind() == Choice.Kind.PIPE) {
             return isStatic ? values.isEmpty() ? new Value.Fresh(null) : values.get(0) : called.object();
         } else if (called.shown().startsWith("StringBu") && services.attribution().type(called.at()).toString()
@@ -294,6 +301,16 @@ final class LibraryCalls {
             return called.object();
         }
         return isMadeNew(called) ? new Value.Fresh(null) : Value.OPAQUE;
+    }
+
+    private static String name(Called called) {
+        return called.shown().substring(called.shown().lastIndexOf('.') + 1);
+    }
+
+    /** The field whose own object a call is made on, where that never changes; else null. */
+    private VariableElement immutable(Called called) {
+        return called.at() instanceof MethodInvocationTree call && call.getMethodSelect() instanceof MemberSelectTree select
+            ? services.immutable(select.getExpression()) : null;
     }
 
     private boolean isMadeNew(Called called) {

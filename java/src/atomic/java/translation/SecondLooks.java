@@ -13,6 +13,7 @@ import com.sun.source.tree.StatementTree;
 import com.sun.source.tree.ThrowTree;
 import com.sun.source.tree.Tree;
 import com.sun.source.tree.VariableTree;
+import com.sun.source.tree.WhileLoopTree;
 import com.sun.source.util.TreeScanner;
 import java.util.List;
 import javax.lang.model.element.VariableElement;
@@ -55,6 +56,28 @@ final class SecondLooks {
         services.hint(kept == null ? branch.getCondition() : kept, "second look: the region behind this asks again, so that"
             + " what is asked first may decide nothing; it counts as a step all the same");
         return at + 1;
+    }
+
+    /**
+     * The region at the end of an endless loop's turn that leaves the loop where nobody came in between, and else does
+     * nothing: the turns before are as if they hadn't been, and so is what this turn looks at in front of it. Else null.
+     */
+    StatementTree optimistic(WhileLoopTree loop) {
+        if (!Retries.isTrue(loop.getCondition()) || !(loop.getStatement() instanceof BlockTree block)
+                || block.getStatements().isEmpty()) {
+            return null;
+        }
+        List<? extends StatementTree> all = block.getStatements();
+        StatementTree last = all.get(all.size() - 1);
+        List<? extends StatementTree> inside = regions.inside(List.of(last), true);
+        boolean tests = inside != null && inside.size() == 1 && inside.get(0) instanceof IfTree branch
+            && branch.getElseStatement() == null && Jumps.ends(branch.getThenStatement());
+        if (!tests || !all.subList(0, all.size() - 1).stream().allMatch(VariableTree.class::isInstance)) {
+            return null;
+        }
+        services.hint(last, "another turn: a turn that fails may do nothing, and one that succeeds may tell that nobody came in"
+            + " between; each counts as steps all the same");
+        return last;
     }
 
     /** Whether a region begins by giving a local a value of its own. */

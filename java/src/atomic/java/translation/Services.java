@@ -13,10 +13,12 @@ import atomic.java.skeleton.Part;
 import atomic.java.skeleton.Path;
 import atomic.java.skeleton.Place;
 import atomic.java.skeleton.Value;
+import com.sun.source.tree.ExpressionTree;
 import com.sun.source.tree.Tree;
 import java.util.HashMap;
 import java.util.List;
 import java.util.Map;
+import javax.lang.model.element.VariableElement;
 
 /** What all translators share: what is known of the program, and the methods that stand for a library's. */
 final class Services {
@@ -86,6 +88,13 @@ final class Services {
 
     Methods methods() {
         return methods;
+    }
+
+    /** The field that an expression names whose objects are all made so that they never change; else null. */
+    VariableElement immutable(ExpressionTree tree) {
+        return attribution().element(Uses.bare(tree)) instanceof VariableElement field && field.getKind().isField()
+            && program.find(field.getEnclosingElement()) != null
+            && "java.util.ImmutableCollections".equals(ownership.made(field)) ? field : null;
     }
 
     /** A call of what is one step, or several, that Java calls {@code shown}. */

@@ -40,8 +40,26 @@ record StableLooks(Services services) {
             && call.getMethodSelect() instanceof MemberSelectTree select && LOOKS.contains(select.getIdentifier().toString())
             && services.attribution().element(Uses.bare(select.getExpression())) instanceof VariableElement field
             && isHidden(field) && services.fields().isSettled(field)
-            && isMap(services.attribution().element(call))
-            && services.uses().of(field).stream().allMatch(this::adds);
+            && (isMap(services.attribution().element(call)) && services.uses().of(field).stream().allMatch(this::adds)
+                || services.uses().of(field).stream().allMatch(this::setsOnce));
+    }
+
+    /** Whether a use of an {@code AtomicReference} sets nothing but what is still null. */
+    private boolean setsOnce(Tree use) {
+        return services.attribution().parent(use) instanceof MemberSelectTree select
+            && services.attribution().parent(select) instanceof MethodInvocationTree call
+            && (select.getIdentifier().contentEquals("get") || select.getIdentifier().contentEquals("compareAndSet")
+                && call.getArguments().get(0).getKind() == Tree.Kind.NULL_LITERAL);
+    }
+
+    /** Whether a call looks at a hidden counter of several cells that only counts up: the sum was so at some moment. */
+    boolean counts(LibraryCalls.Called called) {
+        return called.at() instanceof MethodInvocationTree call && call.getMethodSelect() instanceof MemberSelectTree select
+            && called.shown().startsWith("LongAdder.")
+            && services.attribution().element(Uses.bare(select.getExpression())) instanceof VariableElement field
+            && isHidden(field) && services.uses().of(field).stream().allMatch(use ->
+                services.attribution().parent(use) instanceof MemberSelectTree each
+                && Set.of("increment", "add", "sum", "intValue", "longValue").contains(each.getIdentifier().toString()));
     }
 
     /** Whether a call only looks at an object in a hidden field which some other call changes while it holds a lock. */

@@ -187,7 +187,10 @@ final class Statements extends SimpleTreeVisitor<Void, Void> {
 
     @Override
     public Void visitWhileLoop(WhileLoopTree tree, Void nothing) {
-        if (!new Retries(services, body, this).write(tree)) {
+        StatementTree last = new SecondLooks(services, regions).optimistic(tree);
+        if (last != null && services.program().sure()) {
+            one(last);
+        } else if (!new Retries(services, body, this).write(tree)) {
             repeat(tree, () -> {
                 expressions.value(tree.getCondition());
                 one(tree.getStatement());
