@@ -88,7 +88,7 @@ class Tester:
 
     def users(self) -> None:
         """Each class as its user judges it."""
-        for path in sorted((TESTS / "users").glob("*.java")):
+        for path in sorted((TESTS / "users").rglob("*.java")):
             text = path.read_text(encoding="utf-8")
             options = OPTIONS.search(text)
             answer = self.judged(options[1].split() if options else [], [path])

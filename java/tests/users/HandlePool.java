@@ -113,7 +113,7 @@ public class HandlePool<T> {
         return true;
     }
 
-    public synchronized boolean growLocked() { // refused: fault: the maker of the caller is run in the middle
+    public synchronized boolean growLocked() { // refused: alarm: the function of the caller runs under the lock, and is taken to be able to do anything
         if (shut || slots.size() >= most) {
             return false;
         }

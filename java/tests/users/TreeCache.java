@@ -81,7 +81,7 @@ public class TreeCache<K extends Comparable<K>, V> {
         }
     }
 
-    public Optional<V> findAndCount(K key) { // refused: fault: calls() looks at the figures without their lock, and at each in two halves
+    public Optional<V> findAndCount(K key) { // refused: alarm: one count is one step, but that calls() may see it in two halves, which most machines never show
         synchronized (guard) {
             var found = find(key);
             figures.count(found.isPresent());
@@ -172,7 +172,7 @@ public class TreeCache<K extends Comparable<K>, V> {
         });
     }
 
-    public V merge(K key, V value, BinaryOperator<V> merge) { // refused: fault: a function of the caller in the middle
+    public V merge(K key, V value, BinaryOperator<V> merge) { // refused: alarm: the function of the caller runs under the lock, and is taken to be able to do anything
         synchronized (guard) {
             var known = search(key);
             V merged = known == null ? value : merge.apply(known.value, value);

@@ -136,7 +136,7 @@ public class TtlCache<K, V> {
         });
     }
 
-    public V compute(K key, Function<? super V, ? extends V> change) { // refused: fault: a function of the caller in the middle
+    public V compute(K key, Function<? super V, ? extends V> change) { // refused: alarm: the function of the caller runs under the lock, and is taken to be able to do anything
         long stamp = lock.writeLock();
         try {
             Node<K, V> node = index.get(key);

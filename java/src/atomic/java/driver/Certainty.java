@@ -6,8 +6,10 @@ import java.util.Comparator;
 import java.util.LinkedHashMap;
 import java.util.List;
 import java.util.Map;
+import java.util.Set;
 import java.util.regex.Matcher;
 import java.util.regex.Pattern;
+import java.util.stream.Collectors;
 
 /**
  * The errors of a run beside those that are left where what may be no step is left out. One that is there too is
@@ -46,6 +48,12 @@ final class Certainty {
             }
         });
         return all;
+    }
+
+    /** The files in which some error may be a wrong alarm. */
+    static Set<String> doubted(List<String> lines) {
+        return lines.stream().filter(each -> each.endsWith(DOUBT)).map(each -> PLACED.matcher(
+            each.replace(DOUBT, ERROR))).filter(Matcher::matches).map(each -> each.group(1)).collect(Collectors.toSet());
     }
 
     /** The errors in the order of their places, each once and with the lines behind it. */

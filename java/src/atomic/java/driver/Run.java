@@ -73,9 +73,7 @@ public final class Run {
             certain = certain == null ? certain(attribution, checker) : certain;
             errors = lines(judging, certain);
         }
-        if (errors.stream().anyMatch(each -> each.endsWith(Certainty.DOUBT))) {
-            program.notes().reveal();
-        }
+        program.notes().reveal(Certainty.doubted(errors));
         if (!options.quiet()) {
             program.notes().lines().forEach(line -> answer.append(line).append('\n'));
         }

@@ -32,9 +32,13 @@ public final class Notes {
         hints.computeIfAbsent(place, key -> new TreeSet<>()).add(word(Kind.APPROXIMATED) + ": " + text);
     }
 
-    /** Some alarm may be a wrong one. */
-    public void reveal() {
-        hints.forEach((place, texts) -> lines.computeIfAbsent(place, key -> new TreeSet<>()).addAll(texts));
+    /** In these files some alarm may be a wrong one. */
+    public void reveal(Set<String> files) {
+        hints.forEach((place, texts) -> {
+            if (files.contains(place.file())) {
+                lines.computeIfAbsent(place, key -> new TreeSet<>()).addAll(texts);
+            }
+        });
     }
 
     private static String word(Kind kind) {

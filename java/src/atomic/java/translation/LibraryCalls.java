@@ -9,6 +9,7 @@ import atomic.java.program.JavaMethod;
 import atomic.java.skeleton.Method;
 import atomic.java.skeleton.Part;
 import atomic.java.skeleton.Value;
+import com.sun.source.tree.ExpressionStatementTree;
 import com.sun.source.tree.ExpressionTree;
 import com.sun.source.tree.LambdaExpressionTree;
 import com.sun.source.tree.MemberReferenceTree;
@@ -243,8 +244,10 @@ final class LibraryCalls {
     /** A lock that is taken in no form that is known: a step, unless only what is certain counts. */
     private void lock(Called called) {
         body.locksSomehow();
-        services.hint(called.at(), "lock and unlock stand in no form that is known here, so that " + called.shown()
-            + " counts as a step");
+        if (!(services.attribution().parent(called.at()) instanceof ExpressionStatementTree)) {
+            services.hint(called.at(), "lock and unlock stand in no form that is known here, so that " + called.shown()
+                + " counts as a step");
+        }
         body.emit(services.program().sure() ? Part.NOTHING : services.step(called.shown(), false, called.at()));
     }
 
