@@ -34,7 +34,12 @@ import javax.lang.model.type.TypeMirror;
 public final class Comparators {
     private static final String COMPARATOR = "java.util.Comparator";
     private static final Set<String> MAKERS = Set.of(COMPARATOR, "java.util.Map.Entry", "java.util.Collections");
-    private static final Set<String> ORDERED = Set.of("java.util.PriorityQueue", "java.util.TreeMap", "java.util.TreeSet");
+    private static final Set<String> ORDERED = Set.of("java.util.PriorityQueue", "java.util.TreeMap",
+        "java.util.TreeSet");
+
+    /** Collections that take elements from another one, and no comparator. */
+    private static final Set<String> PLAIN = Set.of("java.util.ArrayList", "java.util.LinkedList", "java.util.ArrayDeque",
+        "java.util.HashSet", "java.util.LinkedHashSet", "java.util.HashMap", "java.util.LinkedHashMap");
 
     private final Attribution attribution;
     private final Ownership ownership;
@@ -57,7 +62,7 @@ public final class Comparators {
         return all;
     }
 
-    /** The functions of hidden fields that a comparator is made of; those that stand in it are called where it is made. */
+    /** The functions of hidden fields that a comparator is made of; those in it are called where it is made. */
     public List<ExpressionTree> named(ExpressionTree comparator) {
         List<ExpressionTree> all = new ArrayList<>();
         if (comparator != null && isComparator(comparator)) {
@@ -79,7 +84,7 @@ public final class Comparators {
             && isFollowed(field) : top instanceof NewClassTree made && isMaking(made);
     }
 
-    /** Whether all that is done with the comparator in a field is known: a hidden final one that is given to known calls. */
+    /** Whether all that is done with a field's comparator is known: a hidden final one that known calls are given. */
     public boolean isFollowed(VariableElement field) {
         Boolean known = followed.get(field);
         if (known == null) {
@@ -105,7 +110,14 @@ public final class Comparators {
         if (parent instanceof MemberSelectTree select && select.getExpression() == each) {
             return select.getIdentifier().contentEquals("compare");
         }
-        return parent instanceof NewClassTree made ? isMaking(made) : ownership.escape().isCalledAtOnce(each);
+        return parent instanceof NewClassTree made ? isMaking(made) : ownership.escape().isCalledAtOnce(each)
+            && attribution.element(parent) instanceof ExecutableElement symbol && !givesFunction(symbol.getReturnType());
+    }
+
+    /** Whether what a call gives may be a function that uses the comparator later. */
+    private boolean givesFunction(TypeMirror type) {
+        String name = attribution.types().erasure(type).toString();
+        return name.startsWith("java.util.function.") || name.equals("java.util.stream.Collector") || name.equals(COMPARATOR);
     }
 
     /** Whether a comparator consists of functions at hand. */
@@ -115,7 +127,8 @@ public final class Comparators {
             return !mentionsSelf(bare);
         } else if (bare instanceof MethodInvocationTree call && isMaker(call)) {
             ExpressionTree before = before(call);
-            return (before == null || isMade(before)) && call.getArguments().stream().allMatch(each -> !isFunction(each) || isMade(each));
+            return (before == null || isMade(before))
+                && call.getArguments().stream().allMatch(each -> !isFunction(each) || isMade(each));
         }
         return attribution.element(bare) instanceof VariableElement field && field.getKind() == ElementKind.FIELD
             && isFollowed(field);
@@ -206,9 +219,10 @@ public final class Comparators {
     }
 
     private boolean isCopied(Tree use) {
-        return attribution.parent(use) instanceof NewClassTree made && isOrdered(made)
-            || attribution.parent(use) instanceof MemberSelectTree select && (select.getIdentifier().contentEquals("clone")
-                || select.getIdentifier().contentEquals("comparator"));
+        return attribution.parent(use) instanceof NewClassTree made
+                && !PLAIN.contains(attribution.types().erasure(attribution.type(made)).toString())
+            || attribution.parent(use) instanceof MemberSelectTree select
+                && List.of("clone", "comparator").contains(select.getIdentifier().toString());
     }
 
     /** Whether a function names its object by {@code this}, which is another one where it is written. */

@@ -10,7 +10,8 @@ import java.util.Collection;
  * Takes out of a skeleton what may be no step: what is refused in what is left is refused whatever the approximated
  * parts do. A call of code that others bring stays only where no lock can be held, since nothing keeps others away
  * then. An access of a field that may have a guard goes where the lock may be held under another name: that of an
- * object without a name or, where a lock is held, of one that a local has from a call, of a node that may be new, one of a field that leads to the same object (see {@link OtherNames}),
+ * object without a name or, where a lock is held, of one that a local has from a call, of a node that may be new, one of
+ * a field that leads to the same object (see {@link OtherNames}),
  * and in a method that is only called where some lock is held. A region that touches no field changes nothing.
  */
 public final class Doubts {
@@ -37,14 +38,15 @@ public final class Doubts {
         if (part instanceof Part.Call call) {
             return isDoubtful(call.target().doubt(), held) ? Part.NOTHING : call;
         } else if (part instanceof Part.Access access) {
-            return isCertain(access, dark) && !names.mayBeHeld(access) && !(held && isAnyObject(access)) ? access : Part.NOTHING;
+            boolean any = names.mayBeHeld(access) || held && isAnyObject(access);
+            return isCertain(access, dark) && !any ? access : Part.NOTHING;
         }
         boolean region = part instanceof Part.Region;
         Part rest = part.map(each -> without(each, held || region, dark && !region));
         return rest instanceof Part.Region left && left.body().isNothing() && !touches(part) ? Part.NOTHING : rest;
     }
 
-    /** Whether an access is one of an object that a local has from a call: whose it is, and which lock guards it, isn't known. */
+    /** Whether an access is one of an object that a local has from a call: which lock guards it isn't known. */
     private static boolean isAnyObject(Part.Access access) {
         return access.field().mayBeGuarded() && access.receiver().path() != null
             && access.receiver().path().root().kind() == Path.Kind.LOCAL;

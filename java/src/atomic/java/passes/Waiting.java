@@ -91,7 +91,8 @@ public final class Waiting {
     }
 
     private static Stream<Path> waitsFor(Part part) {
-        return part instanceof Part.Wait wait ? Stream.ofNullable(wait.lock()) : part.parts().stream().flatMap(Waiting::waitsFor);
+        return part instanceof Part.Wait wait ? Stream.ofNullable(wait.lock())
+            : part.parts().stream().flatMap(Waiting::waitsFor);
     }
 
     /** A part whose calls go to the copies, where one of these locks may be the one that is waited for. */

@@ -59,7 +59,8 @@ public final class Notes {
 
     /** Whether anything is approximated. */
     public boolean approximates() {
-        return !hints.isEmpty() || lines.values().stream().flatMap(Set::stream).anyMatch(each -> each.startsWith("approximated"));
+        return !hints.isEmpty()
+            || lines.values().stream().flatMap(Set::stream).anyMatch(each -> each.startsWith("approximated"));
     }
 
     /** All notes as lines, by their places. */

@@ -162,7 +162,8 @@ public final class Fields {
         if (isVolatile && !contents) {
             field.order();
         }
-        if (contents ? isWide(elementType(java)) || holdsContents(elementType(java)) : isWide(java.asType()) && !isVolatile && !program.sure()) {
+        if (contents ? isWide(elementType(java)) || holdsContents(elementType(java))
+                : isWide(java.asType()) && !isVolatile && !program.sure()) {
             field.widen();
         }
         return new Home(field, holder);

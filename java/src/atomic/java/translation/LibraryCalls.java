@@ -167,7 +167,8 @@ final class LibraryCalls {
                 }
                 boolean own = choice.runsFunctions() && called.arguments().stream().map(Uses::bare).anyMatch(each ->
                     each instanceof LambdaExpressionTree || each instanceof MemberReferenceTree);
-                body.emit(services.doubt(own || isLock(called) || new StableLooks(services).counts(called) ? Method.Doubt.ANY : Method.Doubt.OPEN, called.shown(), true, body, called.at(),
+                boolean any = own || isLock(called) || new StableLooks(services).counts(called);
+                body.emit(services.doubt(any ? Method.Doubt.ANY : Method.Doubt.OPEN, called.shown(), true, body, called.at(),
                     "compound library call: " + called.shown() + " counts as several steps"));
             }
             case READS, WRITES, RUN -> new Contents(services, body).call(called.object(),

@@ -66,8 +66,9 @@ final class LockPairs {
             ? pair(one.getExpression(), other.getExpression()) : List.of();
         Map<VariableElement, Value> before = new HashMap<>(body.locals());
         if (!pair.isEmpty()) {
-            body.locals().put(local(((MemberSelectTree) outer).getExpression()), new Locking(services, body).object(pair.get(0)));
-            body.locals().put(local(((MemberSelectTree) inner).getExpression()), new Locking(services, body).object(pair.get(1)));
+            Locking locking = new Locking(services, body);
+            body.locals().put(local(((MemberSelectTree) outer).getExpression()), locking.object(pair.get(0)));
+            body.locals().put(local(((MemberSelectTree) inner).getExpression()), locking.object(pair.get(1)));
         }
         regions.run();
         body.locals().putAll(before);

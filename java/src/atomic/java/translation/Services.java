@@ -93,7 +93,7 @@ final class Services {
     /** The field that an expression names whose objects are all made so that they never change; else null. */
     VariableElement immutable(ExpressionTree tree) {
         return attribution().element(Uses.bare(tree)) instanceof VariableElement field && field.getKind().isField()
-            && program.find(field.getEnclosingElement()) != null
+            && program.find(field.getEnclosingElement()) != null && !uses.isReflected(field)
             && "java.util.ImmutableCollections".equals(ownership.made(field)) ? field : null;
     }
 

@@ -78,7 +78,8 @@ record StableLooks(Services services) {
     }
 
     private static boolean isMap(Element method) {
-        return method instanceof ExecutableElement symbol && symbol.getEnclosingElement().getSimpleName().toString().endsWith("Map");
+        return method instanceof ExecutableElement symbol
+            && symbol.getEnclosingElement().getSimpleName().toString().endsWith("Map");
     }
 
     private boolean isHidden(VariableElement field) {
@@ -115,14 +116,16 @@ record StableLooks(Services services) {
     private Tree region(Tree tree) {
         Tree each = services.attribution().parent(tree);
         while (each != null && !(each instanceof MethodTree)) {
-            boolean locks = each instanceof SynchronizedTree
+            boolean region = each instanceof SynchronizedTree
                 || each instanceof TryTree tried && tried.getFinallyBlock() != null && unlocks(tried.getFinallyBlock());
-            if (locks) {
+            if (region) {
                 return each;
             }
             each = services.attribution().parent(each);
         }
-        return each instanceof MethodTree method && method.getModifiers().getFlags().contains(Modifier.SYNCHRONIZED) ? each : null;
+        boolean locks = each instanceof MethodTree method
+            && method.getModifiers().getFlags().contains(Modifier.SYNCHRONIZED);
+        return locks ? each : null;
     }
 
     private static boolean unlocks(BlockTree block) {
