@@ -17,7 +17,7 @@ final class UnderLock {
         this.methods = methods;
         callees = new Callees(methods);
         methods.forEach(method -> findEver(method.body(), !method.required().isEmpty()));
-        methods.stream().filter(Method::closed).forEach(always::add);
+        methods.stream().filter(each -> each.closed() && ever.contains(each)).forEach(always::add);
         int before;
         do {
             before = always.size();
@@ -30,7 +30,7 @@ final class UnderLock {
         return ever.contains(method) || isAlways(method);
     }
 
-    /** Whether only code at hand calls the method, and each such call comes where a lock is held. */
+    /** Whether only code at hand calls the method, which it does, and each such call comes where a lock is held. */
     boolean isAlways(Method method) {
         return always.contains(method) || method.wrapped() || !method.required().isEmpty();
     }
