@@ -22,3 +22,6 @@ pub mod Taken
 pub mod TakenLaws
 pub mod Meant
 pub mod Strictly
+-- Lemmas on ranks, by which explanations lead in no circle: one more is given (Ranked), before they are given and in a round (FirstRanks).
+pub mod Ranked
+pub mod FirstRanks

@@ -21,10 +21,10 @@ use Rattle.explain.proofs.WhyErrors.{error_reads, error_is}
 use Rattle.explain.proofs.Heavy.{part_heavy}
 use Rattle.explain.proofs.Readings.{cmpd_reads, cmpd_is}
 use Rattle.explain.proofs.AllVisits.{part_among}
-use Rattle.explain.specs.Explaining.{body_why, is_call_of_method, compound_or, compound_why, is_error_of_part, looped_or, over_of, steps_of, steps_why, why_of, with_first, wrong_of, wrong_or}
+use Rattle.explain.specs.Explaining.{begins_compound, body_why, done_in_order, is_call_of_method, compound_or, compound_why, is_error_of_part, looped_or, over_of, steps_of, steps_why, why_of, with_first, wrong_of, wrong_or}
 use Rattle.explain.specs.Meanings.{are_within, IsBefore, IsAmong, IsAboveLimit, IsReasonOf, Means}
 use Rattle.explain.specs.Views.{errors_in}
-use Rattle.explain.specs.Whys.{WhyData, Two, Overridden}
+use Rattle.explain.specs.Whys.{WhyData, Compound, Two, Overridden}
 
 -- ---- basics
 
@@ -147,37 +147,72 @@ module _ (P : Program) (rel : ℕ → List PathData) (A : Assignment) where
       abbrev Meant : WhyData → Type 0
       Meant why = Means P rel A visits vs overs H limit why
 
-      -- behind a step or none, where not all is nothing
-      with_meant : (o : Option Visit) (cs : List Visit) → ((v : Visit) → o ≡ Some v → Atom v) → AllByRecursion Comp cs → (cs ≡ [] → ⊥) → Meant (with_first o cs)
-      with_meant o [] first all some = absurd (some refl)
-      with_meant None (c ∷ cs) first all some = all.0
-      with_meant (Some v) (c ∷ cs) first all some = (first v refl, inr all.0)
+      -- the first compound step, where not all is nothing
+      first_meant : (cs : List Visit) → AllByRecursion Comp cs → (cs ≡ [] → ⊥) → Meant (with_first None cs)
+      first_meant [] all some = absurd (some refl)
+      first_meant (c ∷ cs) all some = all.0
 
-      compound_meant : (self : ℕ) (o : Option Visit) (cs : List Visit) → ((v : Visit) → o ≡ Some v → Atom v) → AllByRecursion Comp cs → (cs ≡ [] → ⊥) → Meant (compound_why self o cs)
-      compound_meant self o cs first all some = by (first_where (λ c. not (is_call_of_method self c.part)) cs) refl
+      alone_meant : (self : ℕ) (cs : List Visit) → AllByRecursion Comp cs → (cs ≡ [] → ⊥) → Meant (compound_why self None cs)
+      alone_meant self cs all some = by (first_where (λ c. not (is_call_of_method self c.part)) cs) refl
         where
-          by : (found : Option Visit) → first_where (λ c. not (is_call_of_method self c.part)) cs ≡ found → Meant (compound_or found o cs)
-          by None is = with_meant o cs first all some
+          by : (found : Option Visit) → first_where (λ c. not (is_call_of_method self c.part)) cs ≡ found → Meant (compound_or found None cs)
+          by None is = first_meant cs all some
           by (Some c) is = all_first Comp (λ c. not (is_call_of_method self c.part)) cs c all is
+
+      -- an atomic step and a compound one, in the order in which they are done
+      ordered : (v c : Visit) (cs : List Visit) → filter (λ u. not (compound u)) vs ≡ v ∷ [] → filter compound vs ≡ c ∷ cs → Atom v → Comp c → Meant (done_in_order (begins_compound P rel A vs) (Two v c))
+      ordered v c cs own_is cs_is atom comp = by vs refl own_is cs_is
+        where
+          by : (us : List Visit) → vs ≡ us → filter (λ u. not (compound u)) us ≡ v ∷ [] → filter compound us ≡ c ∷ cs → Meant (done_in_order (begins_compound P rel A us) (Two v c))
+          by [] same own comps = absurd cc
+          by (u ∷ us) same own comps = pick (compound u) refl own comps
+            where
+              pick : (b : Bool) → compound u ≡ b → (if not b then u ∷ filter (λ w. not (compound w)) us else filter (λ w. not (compound w)) us) ≡ v ∷ []
+                  → (if b then u ∷ filter compound us else filter compound us) ≡ c ∷ cs → Meant (done_in_order b (Two v c))
+              pick false is own comps =
+                  let first : u ≡ v = same_head u v (filter (λ w. not (compound w)) us) [] own in
+                  let later = first_left compound us c cs comps in
+                  (record { before = []; between = later.front; after = later.rest; whole = same ∙ (λ i. first i ∷ later.whole i) }, inl (atom, inr comp))
+              pick true is own comps =
+                  let first : u ≡ c = same_head u c (filter compound us) cs comps in
+                  let later = first_left (λ w. not (compound w)) us v [] own in
+                  (record { before = []; between = later.front; after = later.rest; whole = same ∙ (λ i. first i ∷ later.whole i) }, inr (comp, atom))
+
+      -- a step that isn't compound by itself, and others that are
+      behind_meant : (self : ℕ) (v : Visit) (cs : List Visit) → filter (λ u. not (compound u)) vs ≡ v ∷ [] → filter compound vs ≡ cs → Atom v → AllByRecursion Comp cs → (cs ≡ [] → ⊥)
+          → Meant (done_in_order (begins_compound P rel A vs) (compound_why self (Some v) cs))
+      behind_meant self v cs own_is cs_is atom all some = by (first_where (λ c. not (is_call_of_method self c.part)) cs) refl
+        where
+          kept : (b : Bool) (c : Visit) → Comp c → Meant (done_in_order b (Compound c))
+          kept true c comp = comp
+          kept false c comp = comp
+
+          with_one : (ds : List Visit) → filter compound vs ≡ ds → AllByRecursion Comp ds → (ds ≡ [] → ⊥) → Meant (done_in_order (begins_compound P rel A vs) (with_first (Some v) ds))
+          with_one [] is comps nonempty = absurd (nonempty refl)
+          with_one (d ∷ ds) is comps nonempty = ordered v d ds own_is is atom comps.0
+
+          by : (found : Option Visit) → first_where (λ c. not (is_call_of_method self c.part)) cs ≡ found → Meant (done_in_order (begins_compound P rel A vs) (compound_or found (Some v) cs))
+          by None is = with_one cs cs_is all some
+          by (Some c) is = kept (begins_compound P rel A vs) c (all_first Comp (λ c. not (is_call_of_method self c.part)) cs c all is)
 
       looped_meant : (v : Visit) (loop : Option ℕ) (why : WhyData) → v.loop ≡ loop → Atom v → (loop ≡ None → Meant why) → Meant (looped_or v loop why)
       looped_meant v None why is atom rest = rest refl
       looped_meant v (Some n) why is atom rest = (atom, is)
 
       steps_meant : (self : ℕ) (own cs : List Visit) → filter (λ v. not (compound v)) vs ≡ own → filter compound vs ≡ cs
-          → AllByRecursion Atom own → AllByRecursion Comp cs → are_many P rel A vs ≡ true → Meant (steps_why self own cs)
+          → AllByRecursion Atom own → AllByRecursion Comp cs → are_many P rel A vs ≡ true → Meant (steps_why self (begins_compound P rel A vs) own cs)
       steps_meant self [] cs own_is cs_is atoms comps many =
-          compound_meant self None cs (λ v e. absurd (none-some v e)) comps
+          alone_meant self cs comps
           (λ empty. let all = none_left compound vs (cs_is ∙ empty) in false≢true (sym (ap (are_many P rel A) (sym all ∙ own_is)) ∙ many))
       steps_meant self (v ∷ []) cs own_is cs_is atoms comps many =
-          looped_meant v v.loop (compound_why self (Some v) cs) refl atoms.0
-          (λ once. compound_meant self (Some v) cs (λ w e. subst Atom (same_Some v w e) atoms.0) comps
+          looped_meant v v.loop (done_in_order (begins_compound P rel A vs) (compound_why self (Some v) cs)) refl atoms.0
+          (λ once. behind_meant self v cs own_is cs_is atoms.0 comps
           (λ empty. let all = none_left compound vs (cs_is ∙ empty) in
           let alone : vs ≡ v ∷ [] = sym all ∙ own_is in
           let one : are_many P rel A (v ∷ []) ≡ false = (λ i. (is_some (once i) || false) || (is_cmpd (atoms.0.own i) || false)) in
           false≢true (sym (ap (are_many P rel A) alone ∙ one) ∙ many)))
       steps_meant self (v ∷ w ∷ ws) cs own_is cs_is atoms comps many =
-          looped_meant v v.loop (Two v w) refl atoms.0 (λ once. (atoms.0, inl (atoms.1.0, two_left (λ u. not (compound u)) vs v w ws own_is)))
+          looped_meant v v.loop (Two v w) refl atoms.0 (λ once. (two_left (λ u. not (compound u)) vs v w ws own_is, inl (atoms.0, inl atoms.1.0)))
 
   -- each of these steps can't be moved, and is no error
   abbrev Solid : List Visit → Visit → Type 0

@@ -66,7 +66,7 @@ alone v true = refl
 alone v false = refl
 
 only_step : (self : ℕ) (v : Visit) (compound : Bool)
-    → (if compound then Compound v else looped_or v v.loop Nothing) ≡ steps_why self (if not compound then v ∷ [] else []) (if compound then v ∷ [] else [])
+    → (if compound then Compound v else looped_or v v.loop Nothing) ≡ steps_why self compound (if not compound then v ∷ [] else []) (if compound then v ∷ [] else [])
 only_step self v true = sym (alone v (not (is_call_of_method self v.part)))
 only_step self v false = refl
 

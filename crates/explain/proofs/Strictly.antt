@@ -14,74 +14,75 @@ use Rattle.rules.specs.Effect.{Assignment}
 use Rattle.explain.specs.Programs.{explained, found_of}
 use Rattle.explain.specs.Strict.{keep_all, keep_from, keeps_strictly, strict_bound, strict_explanations, strict_from, strictly_broken_from, strictly_told}
 use Rattle.explain.specs.Views.{explained_data}
+use Rattle.explain.specs.declared.grounds.Ground.{Ground}
 use Rattle.explain.specs.Whys.{ExplainedData}
 use Rattle.explain.specs.declared.program.Explained.{Explained}
 use Rattle.explain.proofs.Telling.{all_contains, IsRest, rest_first, rest_next, whole}
 
-module _ (P : Program) (rel : ℕ → List PathData) (A : Assignment) (overs : ℕ → List ℕ) where
+module _ (P : Program) (rel : ℕ → List PathData) (A : Assignment) (overs : ℕ → List ℕ) (grounds : List Ground) where
   -- an explanation is that of a method of the program, which has more than its bound
   pub record IsStrictlyTold (x : ExplainedData) : Type 0 where
     pub method : Method
     pub there : slice_get P.methods x.method ≡ Some method
-    pub is : x ≡ explained P rel A overs true (strict_bound P x.method method) x.method method
+    pub is : x ≡ explained P rel A overs grounds true (strict_bound P x.method method) x.method method
     pub above : below_of (found_of A x.method method) (strict_bound P x.method method) ≡ false
 
   told_one : (m : ℕ) (method : Method) → slice_get P.methods m ≡ Some method → (xs : List ExplainedData) → AllByRecursion IsStrictlyTold xs
-      → AllByRecursion IsStrictlyTold (strictly_told P rel A overs m method ++ xs)
+      → AllByRecursion IsStrictlyTold (strictly_told P rel A overs grounds m method ++ xs)
   told_one m method there xs rest = by (keeps_strictly P A m method) refl
     where
-      by : (b : Bool) → keeps_strictly P A m method ≡ b → AllByRecursion IsStrictlyTold ((if b then [] else explained P rel A overs true (strict_bound P m method) m method ∷ []) ++ xs)
+      by : (b : Bool) → keeps_strictly P A m method ≡ b → AllByRecursion IsStrictlyTold ((if b then [] else explained P rel A overs grounds true (strict_bound P m method) m method ∷ []) ++ xs)
       by true is = rest
       by false is = (record { method = method; there = there; is = refl; above = is }, rest)
 
-  told_from : (methods : List Method) (m : ℕ) → IsRest P rel A overs m methods → AllByRecursion IsStrictlyTold (strict_from P rel A overs m methods)
+  told_from : (methods : List Method) (m : ℕ) → IsRest P rel A overs grounds m methods → AllByRecursion IsStrictlyTold (strict_from P rel A overs grounds m methods)
   told_from [] m r = tt
   told_from (method ∷ methods) m r =
-      told_one m method (rest_first P rel A overs m method methods r) (strict_from P rel A overs (m + 1) methods) (told_from methods (m + 1) (rest_next P rel A overs m method methods r))
+      told_one m method (rest_first P rel A overs grounds m method methods r) (strict_from P rel A overs grounds (m + 1) methods) (told_from methods (m + 1) (rest_next P rel A overs grounds m method methods r))
 
-  pub all_strictly_told : (x : ExplainedData) → Contains (strict_explanations P rel A overs) x → IsStrictlyTold x
-  all_strictly_told x c = all_contains P rel A overs IsStrictlyTold (strict_explanations P rel A overs) x (told_from P.methods 0 (whole P rel A overs)) c
+  pub all_strictly_told : (x : ExplainedData) → Contains (strict_explanations P rel A overs grounds) x → IsStrictlyTold x
+  all_strictly_told x c = all_contains P rel A overs grounds IsStrictlyTold (strict_explanations P rel A overs grounds) x (told_from P.methods 0 (whole P rel A overs grounds)) c
 
   -- where no bound is broken, nothing is told
-  pub none_strict : (methods : List Method) (m : ℕ) → strictly_broken_from P A m methods ≡ [] → strict_from P rel A overs m methods ≡ []
+  pub none_strict : (methods : List Method) (m : ℕ) → strictly_broken_from P A m methods ≡ [] → strict_from P rel A overs grounds m methods ≡ []
   none_strict [] m e = refl
   none_strict (method ∷ methods) m e = by (keeps_strictly P A m method) (none_strict methods (m + 1)) e
     where
-      by : (b : Bool) → (strictly_broken_from P A (m + 1) methods ≡ [] → strict_from P rel A overs (m + 1) methods ≡ [])
+      by : (b : Bool) → (strictly_broken_from P A (m + 1) methods ≡ [] → strict_from P rel A overs grounds (m + 1) methods ≡ [])
           → (if b then strictly_broken_from P A (m + 1) methods else m ∷ strictly_broken_from P A (m + 1) methods) ≡ []
-          → (if b then [] else explained P rel A overs true (strict_bound P m method) m method ∷ []) ++ strict_from P rel A overs (m + 1) methods ≡ []
+          → (if b then [] else explained P rel A overs grounds true (strict_bound P m method) m method ∷ []) ++ strict_from P rel A overs grounds (m + 1) methods ≡ []
       by true rest none = rest none
       by false rest none = absurd cc
 
   -- ---- the same in memory
 
   -- nothing is told of a method that keeps its bound
-  pub kept_told : (m : ℕ) (method : Method) (b : Bool) → b ≡ keeps_strictly P A m method → b ≡ true → (xs : List ExplainedData) → xs ≡ xs ++ strictly_told P rel A overs m method
+  pub kept_told : (m : ℕ) (method : Method) (b : Bool) → b ≡ keeps_strictly P A m method → b ≡ true → (xs : List ExplainedData) → xs ≡ xs ++ strictly_told P rel A overs grounds m method
   kept_told m method b is kept xs =
-      sym (append-nil xs) ∙ ap (λ t. xs ++ (if t then [] else explained P rel A overs true (strict_bound P m method) m method ∷ [])) (sym kept ∙ is)
+      sym (append-nil xs) ∙ ap (λ t. xs ++ (if t then [] else explained P rel A overs grounds true (strict_bound P m method) m method ∷ [])) (sym kept ∙ is)
 
   -- of one that breaks it, its explanation is
   pub broken_told : (m : ℕ) (method : Method) (b : Bool) → b ≡ keeps_strictly P A m method → b ≡ false → (old pushed : List Explained) (x : Explained)
-      → explained_data x ≡ explained P rel A overs true (strict_bound P m method) m method → pushed ≡ old ++ x ∷ []
-      → map explained_data pushed ≡ map explained_data old ++ strictly_told P rel A overs m method
+      → explained_data x ≡ explained P rel A overs grounds true (strict_bound P m method) m method → pushed ≡ old ++ x ∷ []
+      → map explained_data pushed ≡ map explained_data old ++ strictly_told P rel A overs grounds m method
   broken_told m method b is broken old pushed x x_is pushed_is =
       ap (map explained_data) pushed_is ∙ map-append explained_data old (x ∷ []) ∙ ap (λ y. map explained_data old ++ y ∷ []) x_is
-      ∙ ap (λ t. map explained_data old ++ (if t then [] else explained P rel A overs true (strict_bound P m method) m method ∷ [])) (sym broken ∙ is)
+      ∙ ap (λ t. map explained_data old ++ (if t then [] else explained P rel A overs grounds true (strict_bound P m method) m method ∷ [])) (sym broken ∙ is)
 
   -- the explanations so far and those of the rest, after one method more
   pub one_more_told : (methods : List CoreMethod) (i : ℕ) (method : CoreMethod) (all all1 every : List ExplainedData) → i < length methods → method ≡ get_or methods i method
-      → all1 ≡ all ++ strictly_told P rel A overs i (method_of method) → all ++ strict_from P rel A overs i (map method_of (drop i methods)) ≡ every
-      → all1 ++ strict_from P rel A overs (i + 1) (map method_of (drop (i + 1) methods)) ≡ every
+      → all1 ≡ all ++ strictly_told P rel A overs grounds i (method_of method) → all ++ strict_from P rel A overs grounds i (map method_of (drop i methods)) ≡ every
+      → all1 ++ strict_from P rel A overs grounds (i + 1) (map method_of (drop (i + 1) methods)) ≡ every
   one_more_told methods i method all all1 every below is adds before =
-      let rest = strict_from P rel A overs (i + 1) (map method_of (drop (i + 1) methods)) in
-      ap (λ l. l ++ rest) adds ∙ append_assoc all (strictly_told P rel A overs i (method_of method)) rest
-      ∙ ap (λ l. all ++ strict_from P rel A overs i (map method_of l)) (sym (next_drop methods i method below is)) ∙ before
+      let rest = strict_from P rel A overs grounds (i + 1) (map method_of (drop (i + 1) methods)) in
+      ap (λ l. l ++ rest) adds ∙ append_assoc all (strictly_told P rel A overs grounds i (method_of method)) rest
+      ∙ ap (λ l. all ++ strict_from P rel A overs grounds i (map method_of l)) (sym (next_drop methods i method below is)) ∙ before
 
   -- at the end they are all
   pub all_told : (methods : List CoreMethod) (i : ℕ) (all : List ExplainedData) → length methods ≤ i → map method_of methods ≡ P.methods
-      → all ++ strict_from P rel A overs i (map method_of (drop i methods)) ≡ strict_from P rel A overs 0 (map method_of methods) → all ≡ strict_explanations P rel A overs
+      → all ++ strict_from P rel A overs grounds i (map method_of (drop i methods)) ≡ strict_from P rel A overs grounds 0 (map method_of methods) → all ≡ strict_explanations P rel A overs grounds
   all_told methods i all past are so_far =
-      sym (append-nil all) ∙ ap (λ ms. all ++ strict_from P rel A overs i (map method_of ms)) (sym (drop_of_length-le methods past)) ∙ so_far ∙ ap (strict_from P rel A overs 0) are
+      sym (append-nil all) ∙ ap (λ ms. all ++ strict_from P rel A overs grounds i (map method_of ms)) (sym (drop_of_length-le methods past)) ∙ so_far ∙ ap (strict_from P rel A overs grounds 0) are
 
 module _ (P : Program) (A : Assignment) where
   -- a method that breaks its bound, one that keeps it, and the end

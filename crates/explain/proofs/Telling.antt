@@ -10,43 +10,44 @@ use Rattle.base.proofs.Lists.{contains_cases, contains_later}
 use Rattle.paths.specs.Paths.{PathData}
 use Rattle.core_program.specs.Core.{Program, Method}
 use Rattle.rules.specs.Effect.{Assignment}
+use Rattle.explain.specs.declared.grounds.Ground.{Ground}
 use Rattle.explain.specs.Whys.{ExplainedData}
 use Rattle.explain.specs.Programs.{led_to, marked, explained_methods, keeps, if_untold, refused, compound, led, explanations_from, explanations, refused_from, IsExplained}
 use Rattle.explain.proofs.Untold.{untold, left, left_most, left_less, left_marked, was_untold, marked_or, apart, were_untold, Lacks, lacks_marked, Differs, all_append, distinct_append}
 
-module _ (P : Program) (rel : ℕ → List PathData) (A : Assignment) (overs : ℕ → List ℕ) where
+module _ (P : Program) (rel : ℕ → List PathData) (A : Assignment) (overs : ℕ → List ℕ) (grounds : List Ground) where
   -- a method that an explanation leads to, where these are told: it is there, isn't told, and keeps its bound
   record IsTold (told : List Bool) (x : ExplainedData) : Type 0 where
     method : Method
     there : slice_get P.methods x.method ≡ Some method
     new : untold told x.method ≡ true
     kept : keeps A x.method method ≡ true
-    is : x ≡ compound P rel A overs x.method method
+    is : x ≡ compound P rel A overs grounds x.method method
 
   abbrev AreTold : List Bool → List ExplainedData → Type 0
   AreTold told xs = AllByRecursion (IsTold told) xs
 
   abbrev Step : (List Bool → List ExplainedData → Type 0) → Type 0
   Step Q = (told : List Bool) (m : ℕ) (method : Method) (rest : List ExplainedData) → slice_get P.methods m ≡ Some method → untold told m ≡ true → keeps A m method ≡ true
-      → Q (slice_set told m true) rest → Q told (compound P rel A overs m method ∷ rest)
+      → Q (slice_set told m true) rest → Q told (compound P rel A overs grounds m method ∷ rest)
 
   one_led : (Q : List Bool → List ExplainedData → Type 0) → ((told : List Bool) → Q told []) → Step Q → (told : List Bool) (m : ℕ) (rest : Method → List ExplainedData)
-      → ((method : Method) → Q (slice_set told m true) (rest method)) → (o : Option Method) → slice_get P.methods m ≡ o → Q told (if_untold A told m o (λ method. compound P rel A overs m method ∷ rest method))
+      → ((method : Method) → Q (slice_set told m true) (rest method)) → (o : Option Method) → slice_get P.methods m ≡ o → Q told (if_untold A told m o (λ method. compound P rel A overs grounds m method ∷ rest method))
   one_led Q none step told m rest later None is = none told
   one_led Q none step told m rest later (Some method) is = by (unwrap_or (slice_get told m) true) (keeps A m method) refl refl
     where
-      by : (t k : Bool) → unwrap_or (slice_get told m) true ≡ t → keeps A m method ≡ k → Q told (if t || not k then [] else compound P rel A overs m method ∷ rest method)
+      by : (t k : Bool) → unwrap_or (slice_get told m) true ≡ t → keeps A m method ≡ k → Q told (if t || not k then [] else compound P rel A overs grounds m method ∷ rest method)
       by true k a b = none told
       by false false a b = none told
       by false true a b = step told m method (rest method) is (ap not a) b (later method)
 
   -- what holds of no explanation, and goes on from step to step, holds of all to which an explanation leads
-  led_all : (Q : List Bool → List ExplainedData → Type 0) → ((told : List Bool) → Q told []) → Step Q → (fuel : ℕ) (told : List Bool) (next : Option ℕ) → Q told (led P rel A overs fuel told next)
+  led_all : (Q : List Bool → List ExplainedData → Type 0) → ((told : List Bool) → Q told []) → Step Q → (fuel : ℕ) (told : List Bool) (next : Option ℕ) → Q told (led P rel A overs grounds fuel told next)
   led_all Q none step zero told next = none told
   led_all Q none step (suc fuel) told None = none told
   led_all Q none step (suc fuel) told (Some m) =
-      one_led Q none step told m (λ method. led P rel A overs fuel (slice_set told m true) (led_to (compound P rel A overs m method).why))
-      (λ method. led_all Q none step fuel (slice_set told m true) (led_to (compound P rel A overs m method).why)) (slice_get P.methods m) refl
+      one_led Q none step told m (λ method. led P rel A overs grounds fuel (slice_set told m true) (led_to (compound P rel A overs grounds m method).why))
+      (λ method. led_all Q none step fuel (slice_set told m true) (led_to (compound P rel A overs grounds m method).why)) (slice_get P.methods m) refl
 
   told_before : (told : List Bool) (m : ℕ) (xs : List ExplainedData) → AreTold (slice_set told m true) xs → AreTold told xs
   told_before told m [] h = tt
@@ -56,14 +57,14 @@ module _ (P : Program) (rel : ℕ → List PathData) (A : Assignment) (overs : �
   first_differs told m [] h = tt
   first_differs told m (x ∷ xs) h = (apart told m x.method h.0.new, first_differs told m xs h.1)
 
-  led_told : (fuel : ℕ) (told : List Bool) (next : Option ℕ) → AreTold told (led P rel A overs fuel told next)
+  led_told : (fuel : ℕ) (told : List Bool) (next : Option ℕ) → AreTold told (led P rel A overs grounds fuel told next)
   led_told = led_all AreTold (λ told. tt) (λ told m method rest there new kept h. (record { method = method; there = there; new = new; kept = kept; is = refl }, told_before told m rest h))
 
   record DifferTold (told : List Bool) (xs : List ExplainedData) : Type 0 where
     each : AreTold told xs
     distinct : IsDistinct (λ m k. m == k) (explained_methods xs)
 
-  led_differ : (fuel : ℕ) (told : List Bool) (next : Option ℕ) → DifferTold told (led P rel A overs fuel told next)
+  led_differ : (fuel : ℕ) (told : List Bool) (next : Option ℕ) → DifferTold told (led P rel A overs grounds fuel told next)
   unfolding IsDistinct
   led_differ = led_all DifferTold (λ told. record { each = tt; distinct = tt })
       (λ told m method rest there new kept h. record {
@@ -74,7 +75,7 @@ module _ (P : Program) (rel : ℕ → List PathData) (A : Assignment) (overs : �
   -- ---- all explanations
 
   abbrev led_from : List Bool → ℕ → Method → List ExplainedData
-  led_from told m method = led P rel A overs (length P.methods) told (led_to (refused P rel A overs m method).why)
+  led_from told m method = led P rel A overs grounds (length P.methods) told (led_to (refused P rel A overs grounds m method).why)
 
   abbrev pub Over : Type 1
   Over = List Bool → ℕ → List Method → List ExplainedData → Type 0
@@ -83,16 +84,16 @@ module _ (P : Program) (rel : ℕ → List PathData) (A : Assignment) (overs : �
   pub all_from : (Q : Over) → ((told : List Bool) (m : ℕ) → Q told m [] [])
       → ((told : List Bool) (m : ℕ) (method : Method) (methods : List Method) (xs : List ExplainedData) → keeps A m method ≡ true → Q told (m + 1) methods xs → Q told m (method ∷ methods) xs)
       → ((told : List Bool) (m : ℕ) (method : Method) (methods : List Method) (xs : List ExplainedData) → keeps A m method ≡ false
-      → Q (marked told (explained_methods (led_from told m method))) (m + 1) methods xs → Q told m (method ∷ methods) (refused P rel A overs m method ∷ (led_from told m method ++ xs)))
-      → (methods : List Method) (told : List Bool) (m : ℕ) → Q told m methods (explanations_from P rel A overs told m methods)
+      → Q (marked told (explained_methods (led_from told m method))) (m + 1) methods xs → Q told m (method ∷ methods) (refused P rel A overs grounds m method ∷ (led_from told m method ++ xs)))
+      → (methods : List Method) (told : List Bool) (m : ℕ) → Q told m methods (explanations_from P rel A overs grounds told m methods)
   all_from Q none kept broken [] told m = none told m
   all_from Q none kept broken (method ∷ methods) told m =
       by (keeps A m method) refl (all_from Q none kept broken methods told (m + 1)) (all_from Q none kept broken methods (marked told (explained_methods (led_from told m method))) (m + 1))
     where
-      by : (b : Bool) → keeps A m method ≡ b → Q told (m + 1) methods (explanations_from P rel A overs told (m + 1) methods)
-          → Q (marked told (explained_methods (led_from told m method))) (m + 1) methods (explanations_from P rel A overs (marked told (explained_methods (led_from told m method))) (m + 1) methods)
-          → Q told m (method ∷ methods) (if b then explanations_from P rel A overs told (m + 1) methods else
-          refused P rel A overs m method ∷ (led_from told m method ++ explanations_from P rel A overs (marked told (explained_methods (led_from told m method))) (m + 1) methods))
+      by : (b : Bool) → keeps A m method ≡ b → Q told (m + 1) methods (explanations_from P rel A overs grounds told (m + 1) methods)
+          → Q (marked told (explained_methods (led_from told m method))) (m + 1) methods (explanations_from P rel A overs grounds (marked told (explained_methods (led_from told m method))) (m + 1) methods)
+          → Q told m (method ∷ methods) (if b then explanations_from P rel A overs grounds told (m + 1) methods else
+          refused P rel A overs grounds m method ∷ (led_from told m method ++ explanations_from P rel A overs grounds (marked told (explained_methods (led_from told m method))) (m + 1) methods))
       by true is one other = kept told m method methods _ is one
       by false is one other = broken told m method methods _ is other
 
@@ -102,13 +103,13 @@ module _ (P : Program) (rel : ℕ → List PathData) (A : Assignment) (overs : �
   none_refused told [] h = refl
   none_refused told (x ∷ xs) h = ap (λ b. if b then x ∷ filter (λ x. x.is_refused) xs else filter (λ x. x.is_refused) xs) (ap (λ (y : ExplainedData). y.is_refused) h.0.is) ∙ none_refused told xs h.1
 
-  pub refused_are : (methods : List Method) (told : List Bool) (m : ℕ) → filter (λ x. x.is_refused) (explanations_from P rel A overs told m methods) ≡ refused_from P rel A overs m methods
-  refused_are = all_from (λ told m methods xs. filter (λ x. x.is_refused) xs ≡ refused_from P rel A overs m methods) (λ told m. refl)
-      (λ told m method methods xs kept h. h ∙ sym (ap (λ b. if b then refused_from P rel A overs (m + 1) methods else refused P rel A overs m method ∷ refused_from P rel A overs (m + 1) methods) kept))
+  pub refused_are : (methods : List Method) (told : List Bool) (m : ℕ) → filter (λ x. x.is_refused) (explanations_from P rel A overs grounds told m methods) ≡ refused_from P rel A overs grounds m methods
+  refused_are = all_from (λ told m methods xs. filter (λ x. x.is_refused) xs ≡ refused_from P rel A overs grounds m methods) (λ told m. refl)
+      (λ told m method methods xs kept h. h ∙ sym (ap (λ b. if b then refused_from P rel A overs grounds (m + 1) methods else refused P rel A overs grounds m method ∷ refused_from P rel A overs grounds (m + 1) methods) kept))
       (λ told m method methods xs broken h.
-      ap (λ l. refused P rel A overs m method ∷ l)
+      ap (λ l. refused P rel A overs grounds m method ∷ l)
       (filter-append (λ x. x.is_refused) (led_from told m method) xs ∙ ap (λ l. l ++ filter (λ x. x.is_refused) xs) (none_refused told (led_from told m method) (led_told (length P.methods) told _)) ∙ h)
-      ∙ sym (ap (λ b. if b then refused_from P rel A overs (m + 1) methods else refused P rel A overs m method ∷ refused_from P rel A overs (m + 1) methods) broken))
+      ∙ sym (ap (λ b. if b then refused_from P rel A overs grounds (m + 1) methods else refused P rel A overs grounds m method ∷ refused_from P rel A overs grounds (m + 1) methods) broken))
 
   -- ---- each method once
 
@@ -184,7 +185,7 @@ module _ (P : Program) (rel : ℕ → List PathData) (A : Assignment) (overs : �
   may_led told m (x ∷ xs) h = (record { method = h.0.method; there = h.0.there; either = inl (h.0.kept, h.0.new) }, may_led told m xs h.1)
 
   once_more : (told : List Bool) (m : ℕ) (method : Method) (more xs : List ExplainedData) → slice_get P.methods m ≡ Some method → keeps A m method ≡ false → DifferTold told more
-      → Once (marked told (explained_methods more)) (m + 1) xs → Once told m (refused P rel A overs m method ∷ (more ++ xs))
+      → Once (marked told (explained_methods more)) (m + 1) xs → Once told m (refused P rel A overs grounds m method ∷ (more ++ xs))
   unfolding IsDistinct
   once_more told m method more xs there broken led h =
       let ks = explained_methods more in
@@ -201,7 +202,7 @@ module _ (P : Program) (rel : ℕ → List PathData) (A : Assignment) (overs : �
         );
       }
 
-  once_from : (methods : List Method) (told : List Bool) (m : ℕ) → IsRest m methods → Once told m (explanations_from P rel A overs told m methods)
+  once_from : (methods : List Method) (told : List Bool) (m : ℕ) → IsRest m methods → Once told m (explanations_from P rel A overs grounds told m methods)
   unfolding IsDistinct
   once_from = all_from (λ told m methods xs. IsRest m methods → Once told m xs) (λ told m r. record { each = tt; distinct = tt })
       (λ told m method methods xs kept h r.
@@ -219,27 +220,27 @@ module _ (P : Program) (rel : ℕ → List PathData) (A : Assignment) (overs : �
     | inr later ↦ all_contains Q ys x h.1 later
   ]
 
-  led_explained : (told : List Bool) (xs : List ExplainedData) → AreTold told xs → AllByRecursion (IsExplained P rel A overs) xs
+  led_explained : (told : List Bool) (xs : List ExplainedData) → AreTold told xs → AllByRecursion (IsExplained P rel A overs grounds) xs
   led_explained told [] h = tt
   led_explained told (x ∷ xs) h = (
     record {
       method = h.0.method;
       there = h.0.there;
-      is = h.0.is ∙ sym (ap (λ b. if b then compound P rel A overs x.method h.0.method else refused P rel A overs x.method h.0.method) h.0.kept);
+      is = h.0.is ∙ sym (ap (λ b. if b then compound P rel A overs grounds x.method h.0.method else refused P rel A overs grounds x.method h.0.method) h.0.kept);
     },
     led_explained told xs h.1,
   )
 
-  explained_from : (methods : List Method) (told : List Bool) (m : ℕ) → IsRest m methods → AllByRecursion (IsExplained P rel A overs) (explanations_from P rel A overs told m methods)
-  explained_from = all_from (λ told m methods xs. IsRest m methods → AllByRecursion (IsExplained P rel A overs) xs) (λ told m r. tt)
+  explained_from : (methods : List Method) (told : List Bool) (m : ℕ) → IsRest m methods → AllByRecursion (IsExplained P rel A overs grounds) (explanations_from P rel A overs grounds told m methods)
+  explained_from = all_from (λ told m methods xs. IsRest m methods → AllByRecursion (IsExplained P rel A overs grounds) xs) (λ told m r. tt)
       (λ told m method methods xs kept h r. h (rest_next m method methods r))
       (λ told m method methods xs broken h r. (
         record {
           method = method;
           there = rest_first m method methods r;
-          is = sym (ap (λ b. if b then compound P rel A overs m method else refused P rel A overs m method) broken);
+          is = sym (ap (λ b. if b then compound P rel A overs grounds m method else refused P rel A overs grounds m method) broken);
         },
-        all_append (IsExplained P rel A overs) (led_from told m method) xs (led_explained told (led_from told m method) (led_told (length P.methods) told _)) (h (rest_next m method methods r)),
+        all_append (IsExplained P rel A overs grounds) (led_from told m method) xs (led_explained told (led_from told m method) (led_told (length P.methods) told _)) (h (rest_next m method methods r)),
       ))
 
   -- ---- none that an explanation leads to is left out
@@ -252,25 +253,25 @@ module _ (P : Program) (rel : ℕ → List PathData) (A : Assignment) (overs : �
 
   abbrev IsComplete : List Bool → List ExplainedData → Type 0
   IsComplete told xs = (x : ExplainedData) → Contains xs x → (k : ℕ) (method : Method) → led_to x.why ≡ Some k → slice_get P.methods k ≡ Some method → untold told k ≡ true → keeps A k method ≡ true
-      → Contains xs (compound P rel A overs k method)
+      → Contains xs (compound P rel A overs grounds k method)
 
   record LedComplete (told : List Bool) (next : Option ℕ) (xs : List ExplainedData) : Type 0 where
-    first : (k : ℕ) (method : Method) → next ≡ Some k → slice_get P.methods k ≡ Some method → untold told k ≡ true → keeps A k method ≡ true → Contains xs (compound P rel A overs k method)
+    first : (k : ℕ) (method : Method) → next ≡ Some k → slice_get P.methods k ≡ Some method → untold told k ≡ true → keeps A k method ≡ true → Contains xs (compound P rel A overs grounds k method)
     later : IsComplete told xs
 
-  same_compound : (m k : ℕ) (a b : Method) → m ≡ k → slice_get P.methods m ≡ Some a → slice_get P.methods k ≡ Some b → compound P rel A overs m a ≡ compound P rel A overs k b
+  same_compound : (m k : ℕ) (a b : Method) → m ≡ k → slice_get P.methods m ≡ Some a → slice_get P.methods k ≡ Some b → compound P rel A overs grounds m a ≡ compound P rel A overs grounds k b
   same_compound m k a b is there too =
-      ap (λ z. compound P rel A overs z a) is ∙ ap (compound P rel A overs k) (same_Some a b (sym there ∙ ap (slice_get P.methods) is ∙ too))
+      ap (λ z. compound P rel A overs grounds z a) is ∙ ap (compound P rel A overs grounds k) (same_Some a b (sym there ∙ ap (slice_get P.methods) is ∙ too))
 
   step_complete : (told : List Bool) (m : ℕ) (method : Method) (rest : List ExplainedData) → slice_get P.methods m ≡ Some method
-      → LedComplete (slice_set told m true) (led_to (compound P rel A overs m method).why) rest → LedComplete told (Some m) (compound P rel A overs m method ∷ rest)
+      → LedComplete (slice_set told m true) (led_to (compound P rel A overs grounds m method).why) rest → LedComplete told (Some m) (compound P rel A overs grounds m method ∷ rest)
   step_complete told m method rest there h =
-      let head = compound P rel A overs m method in
+      let head = compound P rel A overs grounds m method in
       record {
-        first = λ k other e too new kept. contains_first head (compound P rel A overs k other) rest (same_compound m k method other (same_Some m k e) there too);
-        later = λ x c k other leads too new kept. elim (marked_or told m k new) as (λ _. Contains (head ∷ rest) (compound P rel A overs k other)) [
-          | inl same ↦ contains_first head (compound P rel A overs k other) rest (same_compound m k method other same there too)
-          | inr still ↦ contains_later head (compound P rel A overs k other) rest (elim (contains_cases head x rest c) as (λ _. Contains rest (compound P rel A overs k other)) [
+        first = λ k other e too new kept. contains_first head (compound P rel A overs grounds k other) rest (same_compound m k method other (same_Some m k e) there too);
+        later = λ x c k other leads too new kept. elim (marked_or told m k new) as (λ _. Contains (head ∷ rest) (compound P rel A overs grounds k other)) [
+          | inl same ↦ contains_first head (compound P rel A overs grounds k other) rest (same_compound m k method other same there too)
+          | inr still ↦ contains_later head (compound P rel A overs grounds k other) rest (elim (contains_cases head x rest c) as (λ _. Contains rest (compound P rel A overs grounds k other)) [
             | inl is ↦ h.first k other (ap (λ (y : ExplainedData). led_to y.why) is ∙ leads) too still kept
             | inr c2 ↦ h.later x c2 k other leads too still kept
           ])
@@ -278,15 +279,15 @@ module _ (P : Program) (rel : ℕ → List PathData) (A : Assignment) (overs : �
       }
 
   one_complete : (fuel : ℕ) (told : List Bool) (m : ℕ) (rest : Method → List ExplainedData) → left told ≤ suc fuel
-      → ((method : Method) → left (slice_set told m true) ≤ fuel → LedComplete (slice_set told m true) (led_to (compound P rel A overs m method).why) (rest method))
-      → (o : Option Method) → slice_get P.methods m ≡ o → LedComplete told (Some m) (if_untold A told m o (λ method. compound P rel A overs m method ∷ rest method))
+      → ((method : Method) → left (slice_set told m true) ≤ fuel → LedComplete (slice_set told m true) (led_to (compound P rel A overs grounds m method).why) (rest method))
+      → (o : Option Method) → slice_get P.methods m ≡ o → LedComplete told (Some m) (if_untold A told m o (λ method. compound P rel A overs grounds m method ∷ rest method))
   one_complete fuel told m rest few again None is = record {
     first = λ k other e too new kept. absurd (none-some other (sym is ∙ ap (slice_get P.methods) (same_Some m k e) ∙ too));
     later = λ x c k other leads too new kept. contains_none x c;
   }
   one_complete fuel told m rest few again (Some method) is = by (unwrap_or (slice_get told m) true) (keeps A m method) refl refl
     where
-      by : (t b : Bool) → unwrap_or (slice_get told m) true ≡ t → keeps A m method ≡ b → LedComplete told (Some m) (if t || not b then [] else compound P rel A overs m method ∷ rest method)
+      by : (t b : Bool) → unwrap_or (slice_get told m) true ≡ t → keeps A m method ≡ b → LedComplete told (Some m) (if t || not b then [] else compound P rel A overs grounds m method ∷ rest method)
       by true b t_is b_is = record {
         first = λ k other e too new kept. absurd (false≢true (sym (ap not t_is) ∙ ap (untold told) (same_Some m k e) ∙ new));
         later = λ x c k other leads too new kept. contains_none x c;
@@ -299,7 +300,7 @@ module _ (P : Program) (rel : ℕ → List PathData) (A : Assignment) (overs : �
           let less = left_less told m (ap not t_is) in
           step_complete told m method (rest method) is (again method (omega (arith, less, few)))
 
-  led_complete : (fuel : ℕ) (told : List Bool) (next : Option ℕ) → left told ≤ fuel → LedComplete told next (led P rel A overs fuel told next)
+  led_complete : (fuel : ℕ) (told : List Bool) (next : Option ℕ) → left told ≤ fuel → LedComplete told next (led P rel A overs grounds fuel told next)
   led_complete zero told next few = record {
     first = λ k method e there new kept. let less = left_less told k new in absurd (omega (arith, less, few));
     later = λ x c k other leads too new kept. contains_none x c;
@@ -309,26 +310,26 @@ module _ (P : Program) (rel : ℕ → List PathData) (A : Assignment) (overs : �
     later = λ x c k other leads too new kept. contains_none x c;
   }
   led_complete (suc fuel) told (Some m) few =
-      one_complete fuel told m (λ method. led P rel A overs fuel (slice_set told m true) (led_to (compound P rel A overs m method).why)) few
-      (λ method. led_complete fuel (slice_set told m true) (led_to (compound P rel A overs m method).why)) (slice_get P.methods m) refl
+      one_complete fuel told m (λ method. led P rel A overs grounds fuel (slice_set told m true) (led_to (compound P rel A overs grounds m method).why)) few
+      (λ method. led_complete fuel (slice_set told m true) (led_to (compound P rel A overs grounds m method).why)) (slice_get P.methods m) refl
 
   -- a method that isn't told is among those that are then, or isn't told then either
   among_told : (old : List Bool) (xs : List ExplainedData) → AreTold old xs → (told : List Bool) (k : ℕ) (method : Method) → slice_get P.methods k ≡ Some method → untold told k ≡ true
-      → Contains xs (compound P rel A overs k method) ⊎ (untold (marked told (explained_methods xs)) k ≡ true)
+      → Contains xs (compound P rel A overs grounds k method) ⊎ (untold (marked told (explained_methods xs)) k ≡ true)
   among_told old [] h told k method there new = inr new
-  among_told old (x ∷ xs) h told k method there new = elim (marked_or told x.method k new) as (λ _. Contains (x ∷ xs) (compound P rel A overs k method) ⊎ (untold (marked told (explained_methods (x ∷ xs))) k ≡ true)) [
-    | inl same ↦ inl (contains_first x (compound P rel A overs k method) xs (h.0.is ∙ same_compound x.method k h.0.method method same h.0.there there))
-    | inr still ↦ elim (among_told old xs h.1 (slice_set told x.method true) k method there still) as (λ _. Contains (x ∷ xs) (compound P rel A overs k method) ⊎ (untold (marked told (explained_methods (x ∷ xs))) k ≡ true)) [
-      | inl c ↦ inl (contains_later x (compound P rel A overs k method) xs c)
+  among_told old (x ∷ xs) h told k method there new = elim (marked_or told x.method k new) as (λ _. Contains (x ∷ xs) (compound P rel A overs grounds k method) ⊎ (untold (marked told (explained_methods (x ∷ xs))) k ≡ true)) [
+    | inl same ↦ inl (contains_first x (compound P rel A overs grounds k method) xs (h.0.is ∙ same_compound x.method k h.0.method method same h.0.there there))
+    | inr still ↦ elim (among_told old xs h.1 (slice_set told x.method true) k method there still) as (λ _. Contains (x ∷ xs) (compound P rel A overs grounds k method) ⊎ (untold (marked told (explained_methods (x ∷ xs))) k ≡ true)) [
+      | inl c ↦ inl (contains_later x (compound P rel A overs grounds k method) xs c)
       | inr rest ↦ inr rest
     ]
   ]
 
-  complete_more : (told : List Bool) (m : ℕ) (method : Method) (more xs : List ExplainedData) → AreTold told more → LedComplete told (led_to (refused P rel A overs m method).why) more
-      → IsComplete (marked told (explained_methods more)) xs → IsComplete told (refused P rel A overs m method ∷ (more ++ xs))
+  complete_more : (told : List Bool) (m : ℕ) (method : Method) (more xs : List ExplainedData) → AreTold told more → LedComplete told (led_to (refused P rel A overs grounds m method).why) more
+      → IsComplete (marked told (explained_methods more)) xs → IsComplete told (refused P rel A overs grounds m method ∷ (more ++ xs))
   complete_more told m method more xs each led h x c k other leads too new kept =
-      let head = refused P rel A overs m method in
-      let goal = compound P rel A overs k other in
+      let head = refused P rel A overs grounds m method in
+      let goal = compound P rel A overs grounds k other in
       contains_later head goal (more ++ xs) (elim (contains_cases head x (more ++ xs) c) as (λ _. Contains (more ++ xs) goal) [
         | inl is ↦ Contains-append_left more xs goal (led.first k other (ap (λ (y : ExplainedData). led_to y.why) is ∙ leads) too new kept)
         | inr c2 ↦ elim (Contains-append_cases more xs x c2) as (λ _. Contains (more ++ xs) goal) [
@@ -340,7 +341,7 @@ module _ (P : Program) (rel : ℕ → List PathData) (A : Assignment) (overs : �
         ]
       ])
 
-  complete_from : (methods : List Method) (told : List Bool) (m : ℕ) → left told ≤ length P.methods → IsComplete told (explanations_from P rel A overs told m methods)
+  complete_from : (methods : List Method) (told : List Bool) (m : ℕ) → left told ≤ length P.methods → IsComplete told (explanations_from P rel A overs grounds told m methods)
   complete_from = all_from (λ told m methods xs. left told ≤ length P.methods → IsComplete told xs) (λ told m few x c k other leads too new kept. contains_none x c)
       (λ told m method methods xs kept h few. h few)
       (λ told m method methods xs broken h few.
@@ -363,17 +364,17 @@ module _ (P : Program) (rel : ℕ → List PathData) (A : Assignment) (overs : �
   pub whole : IsRest 0 P.methods
   whole = record { at = λ j. let e : 0 + j ≡ j = omega arith in ap (slice_get P.methods) e }
 
-  pub all_refused : filter (λ x. x.is_refused) (explanations P rel A overs) ≡ refused_from P rel A overs 0 P.methods
+  pub all_refused : filter (λ x. x.is_refused) (explanations P rel A overs grounds) ≡ refused_from P rel A overs grounds 0 P.methods
   all_refused = refused_are P.methods (replicate (length P.methods) false) 0
 
-  pub all_once : IsDistinct (λ m k. m == k) (explained_methods (explanations P rel A overs))
+  pub all_once : IsDistinct (λ m k. m == k) (explained_methods (explanations P rel A overs grounds))
   all_once = (once_from P.methods (replicate (length P.methods) false) 0 whole).distinct
 
-  pub all_explained : (x : ExplainedData) → Contains (explanations P rel A overs) x → IsExplained P rel A overs x
-  all_explained x c = all_contains (IsExplained P rel A overs) (explanations P rel A overs) x (explained_from P.methods (replicate (length P.methods) false) 0 whole) c
+  pub all_explained : (x : ExplainedData) → Contains (explanations P rel A overs grounds) x → IsExplained P rel A overs grounds x
+  all_explained x c = all_contains (IsExplained P rel A overs grounds) (explanations P rel A overs grounds) x (explained_from P.methods (replicate (length P.methods) false) 0 whole) c
 
-  pub all_led : (x : ExplainedData) → Contains (explanations P rel A overs) x → (k : ℕ) (method : Method) → led_to x.why ≡ Some k → slice_get P.methods k ≡ Some method → keeps A k method ≡ true
-      → Contains (explanations P rel A overs) (compound P rel A overs k method)
+  pub all_led : (x : ExplainedData) → Contains (explanations P rel A overs grounds) x → (k : ℕ) (method : Method) → led_to x.why ≡ Some k → slice_get P.methods k ≡ Some method → keeps A k method ≡ true
+      → Contains (explanations P rel A overs grounds) (compound P rel A overs grounds k method)
   all_led x c k method leads there kept =
       let long = length-replicate (length P.methods) false in
       let few = left_most (replicate (length P.methods) false) in

@@ -52,12 +52,17 @@ is_call_of_method m part = false
 abbrev pub compound_why : (self : ℕ) → Option Visit → List Visit → WhyData
 compound_why self v cs = compound_or (first_where (λ c. not (is_call_of_method self c.part)) cs) v cs
 
--- why a body with these steps is compound: those that aren't compound by themselves, and those that are. The former go first, since
--- they lie in the method itself.
-abbrev pub steps_why : (self : ℕ) → (own compounds : List Visit) → WhyData
-steps_why self [] cs = compound_why self None cs
-steps_why self (v ∷ []) cs = looped_or v v.loop (compound_why self (Some v) cs)
-steps_why self (v ∷ w ∷ vs) cs = looped_or v v.loop (Two v w)
+-- of two steps the one first that is done first: the call, where the steps begin with one that is compound by itself
+abbrev pub done_in_order : (call_first : Bool) → WhyData → WhyData
+done_in_order true (Two v w) = Two w v
+done_in_order call_first why = why
+
+-- why a body with these steps is compound: those that aren't compound by themselves, and those that are. The former are told rather than the
+-- latter, since they lie in the method itself.
+abbrev pub steps_why : (self : ℕ) → (call_first : Bool) → (own compounds : List Visit) → WhyData
+steps_why self call_first [] cs = compound_why self None cs
+steps_why self call_first (v ∷ []) cs = looped_or v v.loop (done_in_order call_first (compound_why self (Some v) cs))
+steps_why self call_first (v ∷ w ∷ vs) cs = looped_or v v.loop (Two v w)
 
 module _ (P : Program) (rel : ℕ → List PathData) where
   -- whether an error comes from the part itself, and not from a method that is called and is an error where it has what it requires
@@ -75,9 +80,14 @@ over_of rel A limit [] H = Nothing
 over_of rel A limit (m ∷ ms) H = if below_of (A m (held_in (rel m) H)) limit then over_of rel A limit ms H else Overridden m (A m (held_in (rel m) H))
 
 module _ (P : Program) (rel : ℕ → List PathData) (A : Assignment) where
+  -- whether steps begin with one that is compound by itself
+  abbrev pub begins_compound : List Visit → Bool
+  begins_compound [] = false
+  begins_compound (v ∷ vs) = is_cmpd (own_at P rel A v)
+
   -- why a body with these steps is compound
   abbrev pub steps_of : (self : ℕ) → List Visit → WhyData
-  steps_of self vs = steps_why self (filter (λ v. not (is_cmpd (own_at P rel A v))) vs) (filter (λ v. is_cmpd (own_at P rel A v)) vs)
+  steps_of self vs = steps_why self (begins_compound vs) (filter (λ v. not (is_cmpd (own_at P rel A v))) vs) (filter (λ v. is_cmpd (own_at P rel A v)) vs)
 
   -- why a body with this step alone is compound
   abbrev pub only_step_why : Visit → WhyData

@@ -24,5 +24,8 @@ pub mod Takings
 pub mod Deeds
 pub mod Around
 pub mod Causes
+pub mod Grounds
 pub mod Programs
 pub mod Strict
+pub mod Leads
+pub mod Ranking

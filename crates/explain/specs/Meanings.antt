@@ -33,9 +33,9 @@ module _ (P : Program) (rel : ℕ → List PathData) (A : Assignment) where
     pub there : Contains vs v
     pub own : own_at P rel A v ≡ b
 
-  -- two steps: the first is atomic, and the second is one behind it, or a call that is compound by itself
+  -- two steps, of which the first is done before the second: both are atomic, or one is and the other is a call that is compound by itself
   abbrev pub AreTwo : List Visit → Visit → Visit → Type 0
-  AreTwo vs v w = IsAmong vs Atomic v × ((IsAmong vs Atomic w × IsBefore vs v w) ⊎ IsAmong vs Cmpd w)
+  AreTwo vs v w = IsBefore vs v w × ((IsAmong vs Atomic v × (IsAmong vs Atomic w ⊎ IsAmong vs Cmpd w)) ⊎ (IsAmong vs Cmpd v × IsAmong vs Atomic w))
 
   -- what a reason says of a body with these visits and steps, which these methods override and begin with these paths. Nothing is no reason
   abbrev pub Means : (visits steps : List Visit) → (overs : List ℕ) → Held → (limit : Basic) → WhyData → Type 0

@@ -9,7 +9,8 @@ use Rattle.core_program.specs.Core.{Program, Method, CallE}
 use Rattle.effects.specs.Parts.{Part, ExprP}
 use Rattle.rules.specs.Effect.{Assignment}
 use Rattle.rules.specs.Rules.{declared_bound}
-use Rattle.explain.specs.Explaining.{why_of}
+use Rattle.explain.specs.declared.grounds.Ground.{Ground}
+use Rattle.explain.specs.Grounds.{why_by}
 use Rattle.explain.specs.Whys.{WhyData, Wrong, Looped, Compound, Two, Overridden, Nothing, ExplainedData}
 
 -- the method that a part calls, where it is a call
@@ -55,7 +56,7 @@ pub record IsToldNext (P : Program) (A : Assignment) (told : List Bool) (next : 
   pub untold : unwrap_or (slice_get told m) true ≡ false
   pub kept : keeps A m method ≡ true
 
-module _ (P : Program) (rel : ℕ → List PathData) (A : Assignment) (overs : ℕ → List ℕ) where
+module _ (P : Program) (rel : ℕ → List PathData) (A : Assignment) (overs : ℕ → List ℕ) (grounds : List Ground) where
   -- the explanation of a method that may be at most this
   abbrev pub explained : (is_refused : Bool) → (limit : Basic) → ℕ → Method → ExplainedData
   explained is_refused limit m method = record {
@@ -63,7 +64,7 @@ module _ (P : Program) (rel : ℕ → List PathData) (A : Assignment) (overs : �
     is_refused = is_refused;
     limit = limit;
     found = found_of A m method;
-    why = why_of P rel A (overs m) m method limit;
+    why = why_by P rel A overs grounds m method limit;
   }
 
   -- a method that breaks its bound

@@ -8,6 +8,7 @@ use Rattle.core_program.specs.Core.{Program, Method}
 use Rattle.rules.specs.Effect.{Assignment}
 use Rattle.rules.specs.Near.{AreFew, AreRelevant, MethodPaths, rel_of}
 use Rattle.rules.specs.Rules.{IsAntitone, IsClosed, declared_bound}
+use Rattle.explain.specs.declared.grounds.Ground.{Ground}
 use Rattle.explain.specs.Programs.{explained, found_of}
 use Rattle.explain.specs.Whys.{ExplainedData}
 
@@ -46,10 +47,10 @@ strictly_broken_from P A m (method ∷ methods) = if keeps_strictly P A m method
 abbrev pub strictly_broken : Program → Assignment → List ℕ
 strictly_broken P A = strictly_broken_from P A 0 P.methods
 
-module _ (P : Program) (rel : ℕ → List PathData) (A : Assignment) (overs : ℕ → List ℕ) where
+module _ (P : Program) (rel : ℕ → List PathData) (A : Assignment) (overs : ℕ → List ℕ) (grounds : List Ground) where
   -- the explanation of a method that breaks the bound; none of one that keeps it
   abbrev pub strictly_told : ℕ → Method → List ExplainedData
-  strictly_told m method = if keeps_strictly P A m method then [] else explained P rel A overs true (strict_bound P m method) m method ∷ []
+  strictly_told m method = if keeps_strictly P A m method then [] else explained P rel A overs grounds true (strict_bound P m method) m method ∷ []
 
   -- those of methods that are numbered from here on
   abbrev pub strict_from : ℕ → List Method → List ExplainedData

@@ -119,7 +119,7 @@ fn keep<'p>(
 }
 
 /// Whether an error comes from the part itself, and not from a method that is called and is an error where it has what it requires.
-fn is_own<A: Assigned>(
+pub(crate) fn is_own<A: Assigned>(
     walk: &Walk<'_, A>,
     part: CorePart<'_>,
     held: &[Path],

@@ -11,7 +11,7 @@ ghost use Rattle.explain.specs.StepReadings.{first_where, is_cmpd, own_at};
 ghost use Rattle.explain.specs.Steps.{stmt_steps};
 ghost use Rattle.explain.specs.Visits.{Visit, stmt_visits};
 ghost use Rattle.explain.specs.Basics.{stmt_basics};
-ghost use Rattle.explain.specs.Explaining.{body_why, is_call_of_method, compound_or, compound_why, only_step_why, over_of, steps_of, steps_why, why_of, with_first};
+ghost use Rattle.explain.specs.Explaining.{body_why, is_call_of_method, compound_or, compound_why, done_in_order, begins_compound, only_step_why, over_of, steps_of, steps_why, why_of, with_first};
 ghost use Rattle.explain.specs.Views.{errors_in, heavy_in, part_of_walk, visit_of, visits_of, why_data};
 
 use crate::errors::{errors_of, wrong};
@@ -194,9 +194,27 @@ fn compound_why<'p>(id: MethodId, own: Option<Visited<'p>>, compounds: Vec<Visit
     }
 }
 
+/// Of two steps the one first that is done first.
+fn done_in_order<'p>(call_first: bool, why: Why<'p>) -> Why<'p>
+    ensures { why_data result ≡ done_in_order call_first (why_data why.entry) }
+{
+    if !call_first {
+        return why;
+    }
+    match why {
+        Why::Two(first, second) => Why::Two(second, first),
+        other => other,
+    }
+}
+
 /// Why a body with these steps is compound: those that aren't compound by themselves, and those that are.
-fn steps_why<'p>(id: MethodId, own: Vec<Visited<'p>>, compounds: Vec<Visited<'p>>) -> Why<'p>
-    ensures { why_data result ≡ steps_why id (visits_of own.entry.items) (visits_of compounds.entry.items) }
+fn steps_why<'p>(
+    id: MethodId,
+    call_first: bool,
+    own: Vec<Visited<'p>>,
+    compounds: Vec<Visited<'p>>,
+) -> Why<'p>
+    ensures { why_data result ≡ steps_why id call_first (visits_of own.entry.items) (visits_of compounds.entry.items) }
 {
     let mut rest = own.into_iter();
     let Some(first) = rest.next() else {
@@ -207,7 +225,17 @@ fn steps_why<'p>(id: MethodId, own: Vec<Visited<'p>>, compounds: Vec<Visited<'p>
     }
     match rest.next() {
         Some(second) => Why::Two(first, second),
-        None => compound_why(id, Some(first), compounds),
+        None => done_in_order(call_first, compound_why(id, Some(first), compounds)),
+    }
+}
+
+/// Whether steps begin with one that is compound by itself.
+fn begins_compound<A: Assigned>(walk: &Walk<'_, A>, steps: &[Visited<'_>]) -> Result<bool, NoMemory>
+    ensures { IfOk result (λ b. b ≡ begins_compound (program_of walk.now.program.now) (rel_of walk.now.sets.now) (A.Assigned.assigned walk.now.assigned.now) (visits_of steps.now)) }
+{
+    match steps.first() {
+        Some(step) => is_compound(walk, step),
+        None => Ok(false),
     }
 }
 
@@ -247,8 +275,9 @@ fn compound_body<'p, A: Assigned>(
     if let Some(step) = take_only(&mut steps) {
         return only_step_why(walk, step);
     }
+    let call_first = begins_compound(walk, steps.as_slice())?;
     let (own, compounds) = parted(walk, steps)?;
-    Ok(steps_why(id, own, compounds))
+    Ok(steps_why(id, call_first, own, compounds))
 }
 
 /// The first of these methods that is more than the limit where these paths are held.

@@ -15,6 +15,7 @@ ghost use Rattle.explain.specs.Helping.{help};
 ghost use Rattle.explain.specs.PartEffects.{own_of};
 ghost use Rattle.explain.specs.Around.{around, wrapped};
 ghost use Rattle.explain.specs.declared.deeds.Help.TheVariants.{Hold};
+ghost use Rattle.explain.specs.declared.grounds.Ground.{Ground};
 ghost use Rattle.explain.specs.declared.names.Alias.{Alias};
 ghost use Rattle.explain.specs.Deeds.{help_of};
 ghost use Rattle.explain.specs.Explaining.{why_of};
@@ -27,14 +28,14 @@ ghost use Rattle.explain.specs.Whys.{ExplainedData};
 /// The refused methods are told in source order, exactly those that break their bounds. No method is told twice, and none is left out
 /// to which an explanation leads.
 pub fn explanation_laws()
-    ensures refused { (P : Program) (rel : ℕ → List PathData) (A : Assignment) (overs : ℕ → List ℕ) →
-        filter (λ x. x.is_refused) (explanations P rel A overs) ≡ refused_from P rel A overs 0 P.methods }
-    ensures once { (P : Program) (rel : ℕ → List PathData) (A : Assignment) (overs : ℕ → List ℕ) → IsDistinct (λ m k. m == k) (explained_methods (explanations P rel A overs)) }
-    ensures explained { (P : Program) (rel : ℕ → List PathData) (A : Assignment) (overs : ℕ → List ℕ) (x : ExplainedData) →
-        Contains (explanations P rel A overs) x → IsExplained P rel A overs x }
-    ensures led { (P : Program) (rel : ℕ → List PathData) (A : Assignment) (overs : ℕ → List ℕ) (x : ExplainedData) → Contains (explanations P rel A overs) x →
+    ensures refused { (P : Program) (rel : ℕ → List PathData) (A : Assignment) (overs : ℕ → List ℕ) (grounds : List Ground) →
+        filter (λ x. x.is_refused) (explanations P rel A overs grounds) ≡ refused_from P rel A overs grounds 0 P.methods }
+    ensures once { (P : Program) (rel : ℕ → List PathData) (A : Assignment) (overs : ℕ → List ℕ) (grounds : List Ground) → IsDistinct (λ m k. m == k) (explained_methods (explanations P rel A overs grounds)) }
+    ensures explained { (P : Program) (rel : ℕ → List PathData) (A : Assignment) (overs : ℕ → List ℕ) (grounds : List Ground) (x : ExplainedData) →
+        Contains (explanations P rel A overs grounds) x → IsExplained P rel A overs grounds x }
+    ensures led { (P : Program) (rel : ℕ → List PathData) (A : Assignment) (overs : ℕ → List ℕ) (grounds : List Ground) (x : ExplainedData) → Contains (explanations P rel A overs grounds) x →
         (m : ℕ) (method : Method) → led_to x.why ≡ Some m → slice_get P.methods m ≡ Some method → keeps A m method ≡ true →
-        Contains (explanations P rel A overs) (compound P rel A overs m method) }
+        Contains (explanations P rel A overs grounds) (compound P rel A overs grounds m method) }
 {}
 
 /// With the lock that is told held, the step can be moved. A lock is told wherever one helps, and another name that is told is held.

@@ -9,9 +9,11 @@ mod deeds;
 mod errors;
 mod explaining;
 mod found;
+mod grounds;
 mod laws_of_explanations;
 mod names;
 mod program;
+mod ranking;
 mod step_and_place_laws;
 mod strict;
 mod takings;
@@ -23,11 +25,13 @@ pub use causes::{Cause, cause_of};
 pub use deeds::{Deed, Help, deed_of, help_of};
 pub use explaining::{Why, basics};
 pub use found::{CorePart, Visited};
+pub use grounds::Ground;
 pub use laws_of_explanations::{
     around_laws, explanation_laws, hold_laws, reason_laws, taking_laws,
 };
 pub use names::{Alias, Lack, aliases, ascending};
 pub use program::{Explained, explanations};
+pub use ranking::{Bounds, find_grounds};
 pub use step_and_place_laws::{error_laws, help_laws, place_laws, step_laws};
 pub use strict::{keep_strictly, strict_explanations};
 pub use walk::Walk;

@@ -8,7 +8,8 @@ ghost use Rattle.rules.specs.Search.{row_at};
 ghost use Rattle.explain.specs.Strict.{is_thread_entry, is_run, keep_all, keeps_strictly, strict_bound, strict_explanations, strictly_told};
 ghost use Rattle.explain.specs.Views.{explained_data};
 
-use crate::program::{Explained, explain_method};
+use crate::grounds::Ground;
+use crate::program::{Basis, Explained, explain_method};
 use crate::walk::Walk;
 use algebra::Basic;
 use core_program::{CoreClass, CoreMethod, CoreProgram};
@@ -47,7 +48,7 @@ fn is_thread_entry(program: &CoreProgram, id: MethodId) -> bool
 }
 
 /// The greatest basic that a method may have.
-fn strict_bound(program: &CoreProgram, id: MethodId, method: &CoreMethod) -> Basic
+pub(crate) fn strict_bound(program: &CoreProgram, id: MethodId, method: &CoreMethod) -> Basic
     ensures { result ≡ strict_bound (program_of program.now) id (method_of method.now) }
 {
     bound_of(method.annotated || !is_thread_entry(program, id))
@@ -76,36 +77,41 @@ pub fn keep_strictly<A: Assigned>(walk: &Walk<'_, A>) -> bool
 
 /// Adds the explanation of a method, where it has more.
 fn add_strict<'p, A: Assigned>(
-    walk: &Walk<'p, A>,
-    over: &OverridingMethods,
+    basis: &Basis<'_, 'p, A>,
     id: MethodId,
     method: &'p CoreMethod,
     all: &mut Vec<Explained<'p>>,
 ) -> Result<(), NoMemory>
     ensures { OnOk result (map explained_data all.new.items ≡ map explained_data all.old.items
-        ++ strictly_told (program_of walk.now.program.now) (rel_of walk.now.sets.now) (A.Assigned.assigned walk.now.assigned.now) (row_at over.now) id (method_of method.now)) }
+        ++ strictly_told (program_of basis.now.walk.now.program.now) (rel_of basis.now.walk.now.sets.now) (A.Assigned.assigned basis.now.walk.now.assigned.now) (row_at basis.now.over.now) basis.now.grounds.now id (method_of method.now)) }
 {
-    if keeps_strictly(walk, id, method) {
+    if keeps_strictly(basis.walk, id, method) {
         return Ok(());
     }
-    let limit = strict_bound(walk.program, id, method);
-    let x = explain_method(walk, over, id, method, true, limit)?;
+    let limit = strict_bound(basis.walk.program, id, method);
+    let x = explain_method(basis, id, method, true, limit)?;
     all.push(x)?;
     Ok(())
 }
 
 /// The explanations of the methods that have more than they may where each counts as `atomic` but those that threads begin with, in
 /// source order.
-pub fn strict_explanations<'p, A: Assigned>(
-    walk: &Walk<'p, A>,
-    over: &OverridingMethods,
+pub fn strict_explanations<'b, 'p, A: Assigned>(
+    walk: &'b Walk<'p, A>,
+    over: &'b OverridingMethods,
+    grounds: &'b [Ground],
 ) -> Result<Vec<Explained<'p>>, NoMemory>
     requires { length (program_of walk.now.program.now).methods ≤ 2 ^ 32 }
-    ensures { IfOk result (λ all. map explained_data all.items ≡ strict_explanations (program_of walk.now.program.now) (rel_of walk.now.sets.now) (A.Assigned.assigned walk.now.assigned.now) (row_at over.now)) }
+    ensures { IfOk result (λ all. map explained_data all.items ≡ strict_explanations (program_of walk.now.program.now) (rel_of walk.now.sets.now) (A.Assigned.assigned walk.now.assigned.now) (row_at over.now) grounds.now) }
 {
     let mut all = Vec::new(walk.alloc);
     for (m, method) in walk.program.methods().iter().enumerate() {
-        add_strict(walk, over, MethodId(m as u32), method, &mut all)?;
+        let basis = Basis {
+            walk,
+            over,
+            grounds,
+        };
+        add_strict(&basis, MethodId(m as u32), method, &mut all)?;
     }
     Ok(all)
 }

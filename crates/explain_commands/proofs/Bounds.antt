@@ -1,22 +1,29 @@
 -- How it ends, and what is told, by which bounds are asked for.
-use Rattle.std.proofs.Common.{◌≡◌, ℕ, ◌+◌, Bool, true, false, List, [], ◌∷◌, ◌++◌, Contains, Some, if◌then◌else◌, length, slice_get, refl, sym, ap, ◌∙◌}
+use Rattle.std.proofs.Common.{◌≡◌, ℕ, ◌+◌, Bool, true, false, List, [], ◌∷◌, ◌++◌, Contains, Option, Some, None, if◌then◌else◌, length, slice_get, refl, sym, ap, ◌∙◌}
 use Rattle.std.proofs.lemmas.Option.{slice_get_within}
+use Rattle.algebra.specs.declared.basic.Basic.{Basic}
 use Rattle.algebra.specs.Basics.{below_of}
+use Rattle.algebra.specs.HeldPaths.{has_path}
 use Rattle.core_program.specs.Core.{Program, Method}
 use Rattle.core_program.specs.Typed.{IsTyped}
 use Rattle.explain.specs.declared.names.Alias.{Alias}
 use Rattle.explain.specs.Causes.{cause_of}
-use Rattle.explain.specs.Meanings.{IsReasonOf}
+use Rattle.effects.specs.Parts.{StmtP}
+use Rattle.explain.specs.Grounds.{level_at}
+use Rattle.explain.specs.Leads.{AreGrounded, IsReasonChain, IsReasonBy}
 use Rattle.explain.specs.Programs.{explained}
+use Rattle.explain.specs.Ranking.{AreAllRanked}
 use Rattle.explain.specs.Strict.{keep_all, keeps_strictly, strict_bound, strict_from, strictly_broken, strictly_broken_from}
-use Rattle.explain.specs.Visits.{Visit}
+use Rattle.explain.specs.Visits.{Visit, part_visits}
+use Rattle.explain.specs.declared.grounds.Ground.{Ground}
 use Rattle.explain.specs.Whys.{ExplainedData, Wrong}
 use Rattle.explain.proofs.Strictly.{none_broken_strictly, none_strict, some_broken_strictly}
 use Rattle.explain.proofs.Telling.{IsRest, rest_first, rest_next, whole}
 use Rattle.paths.specs.Paths.{PathData}
 use Rattle.reasons.specs.Causing.{IsCause}
-use Rattle.reasons.proofs.Strictly.{strictly_above, strictly_causes, strictly_decides, strictly_reasons}
-use Rattle.reasons.proofs.ToldAbove.{all_above, all_causes, all_reasons}
+use Rattle.reasons.proofs.Founding.{all_grounded}
+use Rattle.reasons.proofs.Strictly.{strictly_above, strictly_causes, strictly_decides, strictly_end, strictly_reasons}
+use Rattle.reasons.proofs.ToldAbove.{all_above, all_causes, all_end, all_reasons}
 use Rattle.rules.specs.Effect.{Assignment}
 use Rattle.rules.specs.Near.{MethodPaths, rel_of}
 use Rattle.rules.specs.Overriding.{AreOverriders}
@@ -28,7 +35,9 @@ use Rattle.explain_commands.specs.declared.words.Order.{Order}
 use Rattle.explain_commands.specs.declared.words.Order.TheVariants.{Why, All, Strict}
 use Rattle.explain_commands.specs.Broken.{broken_methods, ending_for, refused_in}
 use Rattle.explain_commands.specs.Explained.{AreAmongMethods}
-use Rattle.explain_commands.specs.Orders.{IsProgramVerdict, broken_for, ending_in, explanations_for, strict_ending}
+use Rattle.explain_commands.specs.Orders.{IsProgramVerdict, bounds_for, broken_for, ending_in, explanations_for, strict_ending}
+use Rattle.explain_commands.specs.Placed.{IsNamedBy}
+use Rattle.explain_commands.proofs.Placing.{named_there}
 use Rattle.explain_commands.proofs.Breaking.{all_there, exactly_broken, nothing_explained}
 
 -- ---- how it ends
@@ -75,60 +84,84 @@ verdict_for Strict P sets A declared typed least verdict = by (keep_all P A) ref
 
 -- ---- what is told where each method counts as `atomic`
 
-module _ (P : Program) (rel : ℕ → List PathData) (A : Assignment) (overs : ℕ → List ℕ) where
-  strictly_refused : (methods : List Method) (m : ℕ) → refused_in (strict_from P rel A overs m methods) ≡ strictly_broken_from P A m methods
+module _ (P : Program) (rel : ℕ → List PathData) (A : Assignment) (overs : ℕ → List ℕ) (grounds : List Ground) where
+  strictly_refused : (methods : List Method) (m : ℕ) → refused_in (strict_from P rel A overs grounds m methods) ≡ strictly_broken_from P A m methods
   strictly_refused [] m = refl
   strictly_refused (method ∷ methods) m = by (keeps_strictly P A m method) (strictly_refused methods (m + 1))
     where
-      by : (b : Bool) → refused_in (strict_from P rel A overs (m + 1) methods) ≡ strictly_broken_from P A (m + 1) methods
-          → refused_in ((if b then [] else explained P rel A overs true (strict_bound P m method) m method ∷ []) ++ strict_from P rel A overs (m + 1) methods)
+      by : (b : Bool) → refused_in (strict_from P rel A overs grounds (m + 1) methods) ≡ strictly_broken_from P A (m + 1) methods
+          → refused_in ((if b then [] else explained P rel A overs grounds true (strict_bound P m method) m method ∷ []) ++ strict_from P rel A overs grounds (m + 1) methods)
           ≡ (if b then strictly_broken_from P A (m + 1) methods else m ∷ strictly_broken_from P A (m + 1) methods)
       by true rest = rest
       by false rest = ap (λ ms. m ∷ ms) rest
 
-  strictly_there : (methods : List Method) (m : ℕ) → IsRest P rel A overs m methods → AreAmongMethods (length P.methods) (strict_from P rel A overs m methods)
+  strictly_there : (methods : List Method) (m : ℕ) → IsRest P rel A overs grounds m methods → AreAmongMethods (length P.methods) (strict_from P rel A overs grounds m methods)
   strictly_there [] m r = tt
-  strictly_there (method ∷ methods) m r = by (keeps_strictly P A m method) (strictly_there methods (m + 1) (rest_next P rel A overs m method methods r))
+  strictly_there (method ∷ methods) m r = by (keeps_strictly P A m method) (strictly_there methods (m + 1) (rest_next P rel A overs grounds m method methods r))
     where
-      by : (b : Bool) → AreAmongMethods (length P.methods) (strict_from P rel A overs (m + 1) methods)
-          → AreAmongMethods (length P.methods) ((if b then [] else explained P rel A overs true (strict_bound P m method) m method ∷ []) ++ strict_from P rel A overs (m + 1) methods)
+      by : (b : Bool) → AreAmongMethods (length P.methods) (strict_from P rel A overs grounds (m + 1) methods)
+          → AreAmongMethods (length P.methods) ((if b then [] else explained P rel A overs grounds true (strict_bound P m method) m method ∷ []) ++ strict_from P rel A overs grounds (m + 1) methods)
       by true rest = rest
-      by false rest = (slice_get_within P.methods m method (rest_first P rel A overs m method methods r), rest)
+      by false rest = (slice_get_within P.methods m method (rest_first P rel A overs grounds m method methods r), rest)
 
   -- ---- by what is asked for
 
   -- the explanations are of exactly the methods that break their bounds
-  pub exactly_for : (order : Order) → refused_in (explanations_for order P rel A overs) ≡ broken_for order P A
-  exactly_for Why = exactly_broken P rel A overs
-  exactly_for All = exactly_broken P rel A overs
+  pub exactly_for : (order : Order) → refused_in (explanations_for order P rel A overs grounds) ≡ broken_for order P A
+  exactly_for Why = exactly_broken P rel A overs grounds
+  exactly_for All = exactly_broken P rel A overs grounds
   exactly_for Strict = strictly_refused P.methods 0
 
   -- and all their methods are there
-  pub there_for : (order : Order) → AreAmongMethods (length P.methods) (explanations_for order P rel A overs)
-  there_for Why = all_there P rel A overs
-  there_for All = all_there P rel A overs
-  there_for Strict = strictly_there P.methods 0 (whole P rel A overs)
+  pub there_for : (order : Order) → AreAmongMethods (length P.methods) (explanations_for order P rel A overs grounds)
+  there_for Why = all_there P rel A overs grounds
+  there_for All = all_there P rel A overs grounds
+  there_for Strict = strictly_there P.methods 0 (whole P rel A overs grounds)
 
   -- where none breaks its bound, nothing is explained
-  pub nothing_for : (order : Order) → broken_for order P A ≡ [] → explanations_for order P rel A overs ≡ []
-  nothing_for Why none = nothing_explained P rel A overs none
-  nothing_for All none = nothing_explained P rel A overs none
-  nothing_for Strict none = none_strict P rel A overs P.methods 0 none
+  pub nothing_for : (order : Order) → broken_for order P A ≡ [] → explanations_for order P rel A overs grounds ≡ []
+  nothing_for Why none = nothing_explained P rel A overs grounds none
+  nothing_for All none = nothing_explained P rel A overs grounds none
+  nothing_for Strict none = none_strict P rel A overs grounds P.methods 0 none
 
 module _ (P : Program) (sets : List MethodPaths) (A : Assignment) (rows : List (List ℕ)) (typed : IsTyped P) (least : HasLeast P sets A) (are : AreOverriders P rows) where
-  pub above_for : (order : Order) (x : ExplainedData) → Contains (explanations_for order P (rel_of sets) A (row_at rows)) x → below_of x.found x.limit ≡ false
-  above_for Why = all_above P sets A rows typed least.relevant least.least are
-  above_for All = all_above P sets A rows typed least.relevant least.least are
-  above_for Strict = strictly_above P sets A rows typed least.relevant least.least are
+  -- each method that is more than it may be has a rank
+  pub grounded_for : (order : Order) (grounds : List Ground) → AreAllRanked (bounds_for order) P (rel_of sets) A (row_at rows) grounds → AreGrounded (bounds_for order) P (rel_of sets) A (row_at rows) grounds
+  grounded_for order grounds all = all_grounded P sets A rows typed least.relevant least.least are (bounds_for order) grounds all
 
-  pub reasons_for : (order : Order) (x : ExplainedData) → Contains (explanations_for order P (rel_of sets) A (row_at rows)) x → (method : Method) → slice_get P.methods x.method ≡ Some method
-      → IsReasonOf P (rel_of sets) A (row_at rows x.method) method x.limit x.why
-  reasons_for Why = all_reasons P sets A rows typed least.relevant least.least are
-  reasons_for All = all_reasons P sets A rows typed least.relevant least.least are
-  reasons_for Strict = strictly_reasons P sets A rows typed least.relevant least.least are
+  pub above_for : (order : Order) (grounds : List Ground) → AreGrounded (bounds_for order) P (rel_of sets) A (row_at rows) grounds
+      → (x : ExplainedData) → Contains (explanations_for order P (rel_of sets) A (row_at rows) grounds) x → below_of x.found x.limit ≡ false
+  above_for Why grounds are_grounds = all_above P sets A rows typed least.relevant least.least are grounds are_grounds
+  above_for All grounds are_grounds = all_above P sets A rows typed least.relevant least.least are grounds are_grounds
+  above_for Strict grounds are_grounds = strictly_above P sets A rows typed least.relevant least.least are grounds are_grounds
 
-  pub causes_for : (order : Order) (x : ExplainedData) → Contains (explanations_for order P (rel_of sets) A (row_at rows)) x → (v : Visit) → x.why ≡ Wrong v → (aliases : List Alias)
+  pub reasons_for : (order : Order) (grounds : List Ground) → AreGrounded (bounds_for order) P (rel_of sets) A (row_at rows) grounds
+      → (x : ExplainedData) → Contains (explanations_for order P (rel_of sets) A (row_at rows) grounds) x → (method : Method) → slice_get P.methods x.method ≡ Some method
+      → IsReasonBy P (rel_of sets) A (row_at rows x.method) method (level_at grounds x.method) x.limit x.why
+  reasons_for Why grounds are_grounds = all_reasons P sets A rows typed least.relevant least.least are grounds are_grounds
+  reasons_for All grounds are_grounds = all_reasons P sets A rows typed least.relevant least.least are grounds are_grounds
+  reasons_for Strict grounds are_grounds = strictly_reasons P sets A rows typed least.relevant least.least are grounds are_grounds
+
+  pub circle_for : (order : Order) (grounds : List Ground) → AreGrounded (bounds_for order) P (rel_of sets) A (row_at rows) grounds
+      → (x : ExplainedData) → IsReasonChain P (rel_of sets) (explanations_for order P (rel_of sets) A (row_at rows) grounds) x x → ⊥
+  circle_for Why grounds are_grounds = all_end P sets A rows typed least.relevant least.least are grounds are_grounds
+  circle_for All grounds are_grounds = all_end P sets A rows typed least.relevant least.least are grounds are_grounds
+  circle_for Strict grounds are_grounds = strictly_end P sets A rows typed least.relevant least.least are grounds are_grounds
+
+  pub causes_for : (order : Order) (grounds : List Ground) → AreGrounded (bounds_for order) P (rel_of sets) A (row_at rows) grounds
+      → (x : ExplainedData) → Contains (explanations_for order P (rel_of sets) A (row_at rows) grounds) x → (v : Visit) → x.why ≡ Wrong v → (aliases : List Alias)
       → IsCause P (rel_of sets) A v.held v.part (cause_of P (rel_of sets) aliases v.held v.part)
-  causes_for Why = all_causes P sets A rows typed least.relevant least.least are
-  causes_for All = all_causes P sets A rows typed least.relevant least.least are
-  causes_for Strict = strictly_causes P sets A rows typed least.relevant least.least are
+  causes_for Why grounds are_grounds = all_causes P sets A rows typed least.relevant least.least are grounds are_grounds
+  causes_for All grounds are_grounds = all_causes P sets A rows typed least.relevant least.least are grounds are_grounds
+  causes_for Strict grounds are_grounds = strictly_causes P sets A rows typed least.relevant least.least are grounds are_grounds
+
+  -- the visits that a reason names are parts of the method's body
+  pub named_for : (order : Order) (grounds : List Ground) → AreGrounded (bounds_for order) P (rel_of sets) A (row_at rows) grounds
+      → (x : ExplainedData) → Contains (explanations_for order P (rel_of sets) A (row_at rows) grounds) x → (method : Method) → slice_get P.methods x.method ≡ Some method → (v : Visit) → IsNamedBy x.why v
+      → Contains (part_visits P (StmtP method.body) 0 (has_path method.requires_)) v
+  named_for order grounds are_grounds x c method there v named =
+      by (level_at grounds x.method) (reasons_for order grounds are_grounds x c method there)
+    where
+      by : (level : Option Basic) → IsReasonBy P (rel_of sets) A (row_at rows x.method) method level x.limit x.why → Contains (part_visits P (StmtP method.body) 0 (has_path method.requires_)) v
+      by None means = named_there P (rel_of sets) A (row_at rows x.method) method x.limit x.why v named means
+      by (Some level) means = named_there P (rel_of sets) means.known (row_at rows x.method) method level x.why v named means.reason

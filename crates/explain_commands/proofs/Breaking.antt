@@ -3,6 +3,7 @@ use Rattle.std.proofs.Common.{◌≡◌, ◌<◌, ◌≤◌, ℕ, zero, suc, ◌
 use Rattle.std.proofs.lemmas.Option.{slice_get_within}
 use Rattle.core_program.specs.Core.{Program, Method}
 use Rattle.explain.specs.Programs.{explanations, explanations_from, led, led_to, if_untold, compound, refused, marked, explained_methods, keeps}
+use Rattle.explain.specs.declared.grounds.Ground.{Ground}
 use Rattle.explain.specs.Whys.{ExplainedData}
 use Rattle.infer.specs.Verdicts.{HoldBounds, IsFirstBroken}
 use Rattle.algebra.specs.declared.basic.Basic.{Basic}
@@ -45,45 +46,45 @@ there_by_bound : (n : ℕ) (b : Bool) (x : ExplainedData) (more rest later : Lis
 there_by_bound n true x more rest later below fine one two = one
 there_by_bound n false x more rest later below fine one two = (below, all_within n more rest fine two)
 
-module _ (P : Program) (rel : ℕ → List PathData) (A : Assignment) (overs : ℕ → List ℕ) where
+module _ (P : Program) (rel : ℕ → List PathData) (A : Assignment) (overs : ℕ → List ℕ) (grounds : List Ground) where
   of_method : (told : List Bool) (m : ℕ) (o : Option Method) (more : Method → List ExplainedData) → slice_get P.methods m ≡ o
       → ((method : Method) → m < length P.methods → AreLed (length P.methods) (more method)) → AreLed (length P.methods) (if_untold A told m o more)
   of_method told m None more is each = tt
   of_method told m (Some method) more is each =
       unless (length P.methods) (unwrap_or (slice_get told m) true || not (keeps A m method)) (more method) (each method (slice_get_within P.methods m method is))
 
-  led_fine : (fuel : ℕ) (told : List Bool) (next : Option ℕ) → AreLed (length P.methods) (led P rel A overs fuel told next)
+  led_fine : (fuel : ℕ) (told : List Bool) (next : Option ℕ) → AreLed (length P.methods) (led P rel A overs grounds fuel told next)
   led_fine zero told next = tt
   led_fine (suc fuel) told None = tt
   led_fine (suc fuel) told (Some m) =
-      of_method told m (slice_get P.methods m) (λ method. compound P rel A overs m method ∷ led P rel A overs fuel (slice_set told m true) (led_to (compound P rel A overs m method).why)) refl
-      (λ method below. (refl, below, led_fine fuel (slice_set told m true) (led_to (compound P rel A overs m method).why)))
+      of_method told m (slice_get P.methods m) (λ method. compound P rel A overs grounds m method ∷ led P rel A overs grounds fuel (slice_set told m true) (led_to (compound P rel A overs grounds m method).why)) refl
+      (λ method below. (refl, below, led_fine fuel (slice_set told m true) (led_to (compound P rel A overs grounds m method).why)))
 
-  refused_from : (told : List Bool) (m : ℕ) (methods : List Method) → refused_in (explanations_from P rel A overs told m methods) ≡ broken_from A m methods
+  refused_from : (told : List Bool) (m : ℕ) (methods : List Method) → refused_in (explanations_from P rel A overs grounds told m methods) ≡ broken_from A m methods
   refused_from told m [] = refl
   refused_from told m (method ∷ methods) =
-      let more = led P rel A overs (length P.methods) told (led_to (refused P rel A overs m method).why) in
+      let more = led P rel A overs grounds (length P.methods) told (led_to (refused P rel A overs grounds m method).why) in
       let later = marked told (explained_methods more) in
-      by_bound (length P.methods) m (keeps A m method) (refused P rel A overs m method) more (explanations_from P rel A overs later (m + 1) methods)
-      (explanations_from P rel A overs told (m + 1) methods) (broken_from A (m + 1) methods) refl refl (led_fine (length P.methods) told (led_to (refused P rel A overs m method).why))
+      by_bound (length P.methods) m (keeps A m method) (refused P rel A overs grounds m method) more (explanations_from P rel A overs grounds later (m + 1) methods)
+      (explanations_from P rel A overs grounds told (m + 1) methods) (broken_from A (m + 1) methods) refl refl (led_fine (length P.methods) told (led_to (refused P rel A overs grounds m method).why))
       (refused_from told (m + 1) methods) (refused_from later (m + 1) methods)
 
-  within_from : (told : List Bool) (m : ℕ) (methods : List Method) → m + length methods ≡ length P.methods → AreAmongMethods (length P.methods) (explanations_from P rel A overs told m methods)
+  within_from : (told : List Bool) (m : ℕ) (methods : List Method) → m + length methods ≡ length P.methods → AreAmongMethods (length P.methods) (explanations_from P rel A overs grounds told m methods)
   within_from told m [] e = tt
   within_from told m (method ∷ methods) e =
-      let more = led P rel A overs (length P.methods) told (led_to (refused P rel A overs m method).why) in
+      let more = led P rel A overs grounds (length P.methods) told (led_to (refused P rel A overs grounds m method).why) in
       let later = marked told (explained_methods more) in
       let next : (m + 1) + length methods ≡ length P.methods = omega (arith, e) in
-      there_by_bound (length P.methods) (keeps A m method) (refused P rel A overs m method) more (explanations_from P rel A overs later (m + 1) methods)
-      (explanations_from P rel A overs told (m + 1) methods) (omega (arith, e)) (led_fine (length P.methods) told (led_to (refused P rel A overs m method).why))
+      there_by_bound (length P.methods) (keeps A m method) (refused P rel A overs grounds m method) more (explanations_from P rel A overs grounds later (m + 1) methods)
+      (explanations_from P rel A overs grounds told (m + 1) methods) (omega (arith, e)) (led_fine (length P.methods) told (led_to (refused P rel A overs grounds m method).why))
       (within_from told (m + 1) methods next) (within_from later (m + 1) methods next)
 
   -- the explanations are of exactly the methods that break their bounds
-  pub exactly_broken : refused_in (explanations P rel A overs) ≡ broken_methods P A
+  pub exactly_broken : refused_in (explanations P rel A overs grounds) ≡ broken_methods P A
   exactly_broken = refused_from (replicate (length P.methods) false) 0 P.methods
 
   -- and all their methods are there
-  pub all_there : AreAmongMethods (length P.methods) (explanations P rel A overs)
+  pub all_there : AreAmongMethods (length P.methods) (explanations P rel A overs grounds)
   all_there = within_from (replicate (length P.methods) false) 0 P.methods (omega arith)
 
 -- where no method breaks its bound, nothing is explained
@@ -91,15 +92,15 @@ none_explained : (b : Bool) (m : ℕ) (ms : List ℕ) (x : ExplainedData) (xs la
 none_explained true m ms x xs later rest e = rest e
 none_explained false m ms x xs later rest e = absurd cc
 
-module _ (P : Program) (rel : ℕ → List PathData) (A : Assignment) (overs : ℕ → List ℕ) where
-  nothing_from : (told : List Bool) (m : ℕ) (methods : List Method) → broken_from A m methods ≡ [] → explanations_from P rel A overs told m methods ≡ []
+module _ (P : Program) (rel : ℕ → List PathData) (A : Assignment) (overs : ℕ → List ℕ) (grounds : List Ground) where
+  nothing_from : (told : List Bool) (m : ℕ) (methods : List Method) → broken_from A m methods ≡ [] → explanations_from P rel A overs grounds told m methods ≡ []
   nothing_from told m [] e = refl
   nothing_from told m (method ∷ methods) e =
-      let more = led P rel A overs (length P.methods) told (led_to (refused P rel A overs m method).why) in
-      none_explained (keeps A m method) m (broken_from A (m + 1) methods) (refused P rel A overs m method)
-      (more ++ explanations_from P rel A overs (marked told (explained_methods more)) (m + 1) methods) (explanations_from P rel A overs told (m + 1) methods) (nothing_from told (m + 1) methods) e
+      let more = led P rel A overs grounds (length P.methods) told (led_to (refused P rel A overs grounds m method).why) in
+      none_explained (keeps A m method) m (broken_from A (m + 1) methods) (refused P rel A overs grounds m method)
+      (more ++ explanations_from P rel A overs grounds (marked told (explained_methods more)) (m + 1) methods) (explanations_from P rel A overs grounds told (m + 1) methods) (nothing_from told (m + 1) methods) e
 
-  pub nothing_explained : broken_methods P A ≡ [] → explanations P rel A overs ≡ []
+  pub nothing_explained : broken_methods P A ≡ [] → explanations P rel A overs grounds ≡ []
   nothing_explained e = nothing_from (replicate (length P.methods) false) 0 P.methods e
 
 -- where every method keeps its bound, none breaks it

@@ -9,7 +9,7 @@ use Rattle.classes.specs.Table.{table_of}
 use Rattle.core_program.specs.Core.{Program, Method}
 use Rattle.effects.specs.Parts.{StmtP}
 use Rattle.explain.proofs.AllVisits.{part_among}
-use Rattle.explain.specs.Meanings.{IsAmong, IsBefore, IsReasonOf}
+use Rattle.explain.specs.Meanings.{IsAmong, IsReasonOf}
 use Rattle.explain.specs.Steps.{stmt_steps}
 use Rattle.explain.specs.Visits.{Visit, part_visits}
 use Rattle.explain.specs.Whys.{WhyData}
@@ -36,12 +36,22 @@ module _ (P : Program) (rel : ℕ → List PathData) (A : Assignment) (overs : L
   named_there limit _ _ (error v) means = means.there
   named_there limit _ _ (repeated v n) means = step_there v means.0.there
   named_there limit _ _ (call v) means = step_there v means.there
-  named_there limit _ _ (first v w) means = step_there v means.0.there
+  named_there limit _ _ (first v w) means = by means.1
+    where
+      by : (IsAmong P rel A steps Atomic v × (IsAmong P rel A steps Atomic w ⊎ IsAmong P rel A steps Cmpd w)) ⊎ (IsAmong P rel A steps Cmpd v × IsAmong P rel A steps Atomic w)
+          → Contains (part_visits P (StmtP method.body) 0 (has_path method.requires_)) v
+      by (inl both) = step_there v both.0.there
+      by (inr both) = step_there v both.0.there
   named_there limit _ _ (second v w) means = by means.1
     where
-      by : (IsAmong P rel A steps Atomic w × IsBefore steps v w) ⊎ IsAmong P rel A steps Cmpd w → Contains (part_visits P (StmtP method.body) 0 (has_path method.requires_)) w
-      by (inl both) = step_there w both.0.there
-      by (inr alone) = step_there w alone.there
+      either : IsAmong P rel A steps Atomic w ⊎ IsAmong P rel A steps Cmpd w → Contains (part_visits P (StmtP method.body) 0 (has_path method.requires_)) w
+      either (inl one) = step_there w one.there
+      either (inr one) = step_there w one.there
+
+      by : (IsAmong P rel A steps Atomic v × (IsAmong P rel A steps Atomic w ⊎ IsAmong P rel A steps Cmpd w)) ⊎ (IsAmong P rel A steps Cmpd v × IsAmong P rel A steps Atomic w)
+          → Contains (part_visits P (StmtP method.body) 0 (has_path method.requires_)) w
+      by (inl both) = either both.1
+      by (inr both) = step_there w both.1.there
 
 pub placed : (name file : List ℕ) (tree : ProgramTree) (P : Program) → core_of tree ≡ Some P → (k : ℕ) (method : Method) → slice_get P.methods k ≡ Some method → (v : Visit)
     → Contains (part_visits P (StmtP method.body) 0 (has_path method.requires_)) v → StandsInPlace tree (pages_of name file tree k) k method v

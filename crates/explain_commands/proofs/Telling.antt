@@ -27,9 +27,9 @@ use Rattle.explain_commands.specs.Broken.{ending_for}
 use Rattle.explain_commands.specs.Orders.{IsAcceptedFor, IsProgramVerdict, broken_for, explanations_for}
 use Rattle.explain_commands.specs.Explained.{AreTexts, none, more}
 use Rattle.explain_commands.specs.Sentence.{AsksToExplain, TellsBroken, ExplainsBroken}
-use Rattle.explain_commands.proofs.Placing.{named_there, placed}
+use Rattle.explain_commands.proofs.Placing.{placed}
 use Rattle.explain_commands.specs.Written.{IsAskedFile, BelongsToFile, too_large, ended}
-use Rattle.explain_commands.proofs.Bounds.{above_for, causes_for, exactly_for, nothing_for, reasons_for}
+use Rattle.explain_commands.proofs.Bounds.{above_for, causes_for, circle_for, exactly_for, grounded_for, named_for, nothing_for, reasons_for}
 
 -- the status of how it ends where these methods break their bounds
 two_or_none : (status : ℕ) (ms : List ℕ) → status ≡ code_of (ending_for ms) → ((status ≡ 2) ↔ (ms ≢ [])) × ((status ≡ 0) ↔ (ms ≡ []))
@@ -61,6 +61,8 @@ module _ (call : Call) (name file : List ℕ) where
       → Explains order P (rel_of j.sets) j.assignment (pages_of name file tree) text → call.status ≡ code_of ending → Appends call.written_before call.written_after text → TellsBroken order call name file tree P
   tells order tree P ending text core j explains status written =
       let overs = explains.overs in
+      let grounds = explains.grounds in
+      let founded = grounded_for P j.sets j.assignment overs j.typed j.least explains.are_overs order grounds explains.are_grounds in
       let by_list = two_or_none call.status (broken_for order P j.assignment) (status ∙ ap code_of j.ending_is) in
       let by_rules = as_rules order P call.status ending status j.verdict in
       record {
@@ -69,22 +71,23 @@ module _ (call : Call) (name file : List ℕ) where
         least = j.least;
         overs = overs;
         are_overs = explains.are_overs;
+        grounds = grounds;
         text = text;
         texts = explains.texts;
         written = written;
-        counts = all_counted P (rel_of j.sets) (explanations_for order P (rel_of j.sets) j.assignment (row_at overs));
-        methods = exactly_for P (rel_of j.sets) j.assignment (row_at overs) order;
-        above = above_for P j.sets j.assignment overs j.typed j.least explains.are_overs order;
-        reasons = reasons_for P j.sets j.assignment overs j.typed j.least explains.are_overs order;
-        causes = causes_for P j.sets j.assignment overs j.typed j.least explains.are_overs order;
+        counts = all_counted P (rel_of j.sets) (explanations_for order P (rel_of j.sets) j.assignment (row_at overs) grounds);
+        methods = exactly_for P (rel_of j.sets) j.assignment (row_at overs) grounds order;
+        above = above_for P j.sets j.assignment overs j.typed j.least explains.are_overs order grounds founded;
+        reasons = reasons_for P j.sets j.assignment overs j.typed j.least explains.are_overs order grounds founded;
+        circle = circle_for P j.sets j.assignment overs j.typed j.least explains.are_overs order grounds founded;
+        causes = causes_for P j.sets j.assignment overs j.typed j.least explains.are_overs order grounds founded;
         places = λ x c method is v named. placed name file tree P core x.method method is v
-            (named_there P (rel_of j.sets) j.assignment (row_at overs x.method) method x.limit x.why v named
-            (reasons_for P j.sets j.assignment overs j.typed j.least explains.are_overs order x c method is));
+            (named_for P j.sets j.assignment overs j.typed j.least explains.are_overs order grounds founded x c method is v named);
         refused = by_list.0;
         accepted = by_list.1;
         silent = λ zero. no_lines P (rel_of j.sets) j.assignment (pages_of name file tree) (row_at overs)
-            (arranged P (rel_of j.sets) (explanations_for order P (rel_of j.sets) j.assignment (row_at overs))) text
-            (ap (arranged P (rel_of j.sets)) (nothing_for P (rel_of j.sets) j.assignment (row_at overs) order (by_list.1.0 zero))) explains.texts;
+            (arranged P (rel_of j.sets) (explanations_for order P (rel_of j.sets) j.assignment (row_at overs) grounds)) text
+            (ap (arranged P (rel_of j.sets)) (nothing_for P (rel_of j.sets) j.assignment (row_at overs) grounds order (by_list.1.0 zero))) explains.texts;
         inadmissible = by_rules.0;
         admissible = by_rules.1;
       }

@@ -3,6 +3,8 @@ use Rattle.std.specs.Prelude.{◌≡◌, ℕ, List, map}
 use Rattle.classes.specs.Table.{table_of}
 use Rattle.core_program.specs.Core.{Program}
 use Rattle.core_program.specs.Typed.{IsTyped}
+use Rattle.explain.specs.declared.grounds.Ground.{Ground}
+use Rattle.explain.specs.Ranking.{AreAllRanked}
 use Rattle.explain_text.specs.Pages.{PageData}
 use Rattle.paths.specs.Paths.{PathData}
 use Rattle.places.specs.Sources.{methods_in}
@@ -21,14 +23,17 @@ use Rattle.explain_commands.specs.Broken.{ending_for}
 use Rattle.explain_commands.specs.Explained.{page_of, AreTexts}
 use Rattle.explain_commands.specs.Faults.{IsSourceFaultLine}
 use Rattle.explain_commands.specs.Listed.{all_lines}
-use Rattle.explain_commands.specs.Orders.{IsProgramVerdict, broken_for, explanations_for}
+use Rattle.explain_commands.specs.Orders.{IsProgramVerdict, bounds_for, broken_for, explanations_for}
 
 -- the text has the lines of the explanations that are asked of a program
 pub record Explains (order : Order) (P : Program) (rel : ℕ → List PathData) (A : Assignment) (pages : ℕ → PageData) (text : List ℕ) : Type 0 where
   -- for each method those that override it
   pub overs : List (List ℕ)
   pub are_overs : AreOverriders P overs
-  pub texts : AreTexts P rel A pages (row_at overs) (arranged P rel (explanations_for order P rel A (row_at overs))) text
+  -- on what the explanation of each method rests
+  pub grounds : List Ground
+  pub are_grounds : AreAllRanked (bounds_for order) P rel A (row_at overs) grounds
+  pub texts : AreTexts P rel A pages (row_at overs) (arranged P rel (explanations_for order P rel A (row_at overs) grounds)) text
 
 -- the text that belongs to what is asked for
 abbrev pub IsText : Order → Program → (ℕ → List PathData) → Assignment → (ℕ → PageData) → List ℕ → Type 0

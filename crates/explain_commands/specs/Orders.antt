@@ -1,7 +1,11 @@
 -- What is asked of a program: which bounds its methods have to keep, and which are told.
-use Rattle.std.specs.Prelude.{ℕ, Bool, true, false, List}
+use Rattle.std.specs.Prelude.{◌≡◌, ℕ, Bool, true, false, List}
 use Rattle.core_program.specs.Core.{Program}
+use Rattle.explain.specs.declared.grounds.Ground.{Ground}
+use Rattle.explain.specs.declared.ranking.Bounds.{Bounds}
+use Rattle.explain.specs.declared.ranking.Bounds.TheVariants as bounds
 use Rattle.explain.specs.Programs.{explanations}
+use Rattle.explain.specs.Ranking.{AreAllRanked}
 use Rattle.explain.specs.Strict.{IsStrictlyAccepted, keep_all, strict_explanations, strictly_broken}
 use Rattle.explain.specs.Whys.{ExplainedData}
 use Rattle.paths.specs.Paths.{PathData}
@@ -22,11 +26,23 @@ broken_for Why P A = broken_methods P A
 broken_for All P A = broken_methods P A
 broken_for Strict P A = strictly_broken P A
 
+-- which bounds are asked for
+abbrev pub bounds_for : Order → Bounds
+bounds_for Why = bounds.Declared
+bounds_for All = bounds.Declared
+bounds_for Strict = bounds.Strict
+
 -- the explanations of these methods
-abbrev pub explanations_for : Order → Program → (rel : ℕ → List PathData) → Assignment → (overs : ℕ → List ℕ) → List ExplainedData
-explanations_for Why P rel A overs = explanations P rel A overs
-explanations_for All P rel A overs = explanations P rel A overs
-explanations_for Strict P rel A overs = strict_explanations P rel A overs
+abbrev pub explanations_for : Order → Program → (rel : ℕ → List PathData) → Assignment → (overs : ℕ → List ℕ) → (grounds : List Ground) → List ExplainedData
+explanations_for Why P rel A overs grounds = explanations P rel A overs grounds
+explanations_for All P rel A overs grounds = explanations P rel A overs grounds
+explanations_for Strict P rel A overs grounds = strict_explanations P rel A overs grounds
+
+-- these are the explanations that are asked for, by ranks that are given to all methods that can get one
+pub record AreExplained (order : Order) (P : Program) (rel : ℕ → List PathData) (A : Assignment) (overs : ℕ → List ℕ) (xs : List ExplainedData) : Type 0 where
+  pub grounds : List Ground
+  pub are_grounds : AreAllRanked (bounds_for order) P rel A overs grounds
+  pub xs_are : xs ≡ explanations_for order P rel A overs grounds
 
 -- the program is accepted, with these bounds
 abbrev pub IsAcceptedFor : Order → Program → Type 0

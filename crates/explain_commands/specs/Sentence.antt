@@ -8,7 +8,9 @@ use Rattle.algebra.specs.Basics.{below_of}
 use Rattle.core_program.specs.Core.{Program, Method}
 use Rattle.explain.specs.declared.names.Alias.{Alias}
 use Rattle.explain.specs.Causes.{cause_of}
-use Rattle.explain.specs.Meanings.{IsReasonOf}
+use Rattle.explain.specs.declared.grounds.Ground.{Ground}
+use Rattle.explain.specs.Grounds.{level_at}
+use Rattle.explain.specs.Leads.{IsChain, IsReasonBy}
 use Rattle.explain.specs.Whys.{ExplainedData, Wrong}
 use Rattle.edge.specs.Calls.{Call, HasNoFault}
 use Rattle.reasons.specs.Causing.{IsCause}
@@ -38,23 +40,27 @@ pub record TellsBroken (order : Order) (call : Call) (name file : List ℕ) (tre
   pub least : HasLeast P sets assignment
   pub overs : List (List ℕ)
   pub are_overs : AreOverriders P overs
+  -- on what the explanation of each method rests: its rank, and the level by which it is told, if it isn't told as it is
+  pub grounds : List Ground
   -- the lines are those of the explanations
   pub text : List ℕ
-  pub texts : AreTexts P (rel_of sets) assignment (pages_of name file tree) (row_at overs) (arranged P (rel_of sets) (explanations_for order P (rel_of sets) assignment (row_at overs))) text
+  pub texts : AreTexts P (rel_of sets) assignment (pages_of name file tree) (row_at overs) (arranged P (rel_of sets) (explanations_for order P (rel_of sets) assignment (row_at overs) grounds)) text
   pub written : Appends call.written_before call.written_after text
   -- each explanation is told, or counted at one that is told for the same error of a callee
-  pub counts : told_or_counted (arranged P (rel_of sets) (explanations_for order P (rel_of sets) assignment (row_at overs))) ≡ length (explanations_for order P (rel_of sets) assignment (row_at overs))
+  pub counts : told_or_counted (arranged P (rel_of sets) (explanations_for order P (rel_of sets) assignment (row_at overs) grounds)) ≡ length (explanations_for order P (rel_of sets) assignment (row_at overs) grounds)
   -- those of refused methods are of exactly the methods whose bound the assignment breaks, in source order
-  pub methods : refused_in (explanations_for order P (rel_of sets) assignment (row_at overs)) ≡ broken_for order P assignment
+  pub methods : refused_in (explanations_for order P (rel_of sets) assignment (row_at overs) grounds) ≡ broken_for order P assignment
   -- each method that is told is more than it may be, also one to which another leads, and has a reason, which is so
-  pub above : (x : ExplainedData) → Contains (explanations_for order P (rel_of sets) assignment (row_at overs)) x → below_of x.found x.limit ≡ false
-  pub reasons : (x : ExplainedData) → Contains (explanations_for order P (rel_of sets) assignment (row_at overs)) x → (method : Method) → slice_get P.methods x.method ≡ Some method
-      → IsReasonOf P (rel_of sets) assignment (row_at overs x.method) method x.limit x.why
+  pub above : (x : ExplainedData) → Contains (explanations_for order P (rel_of sets) assignment (row_at overs) grounds) x → below_of x.found x.limit ≡ false
+  pub reasons : (x : ExplainedData) → Contains (explanations_for order P (rel_of sets) assignment (row_at overs) grounds) x → (method : Method) → slice_get P.methods x.method ≡ Some method
+      → IsReasonBy P (rel_of sets) assignment (row_at overs x.method) method (level_at grounds x.method) x.limit x.why
+  -- no chain of told methods, each of which is what it is by the next, comes back to where it began
+  pub circle : (x : ExplainedData) → IsChain P (rel_of sets) (explanations_for order P (rel_of sets) assignment (row_at overs) grounds) x x → ⊥
   -- and so has each access or call that lacks a lock: the line tells what lacks there
-  pub causes : (x : ExplainedData) → Contains (explanations_for order P (rel_of sets) assignment (row_at overs)) x → (v : Visit) → x.why ≡ Wrong v
+  pub causes : (x : ExplainedData) → Contains (explanations_for order P (rel_of sets) assignment (row_at overs) grounds) x → (v : Visit) → x.why ≡ Wrong v
       → (aliases : List Alias) → IsCause P (rel_of sets) assignment v.held v.part (cause_of P (rel_of sets) aliases v.held v.part)
   -- the lines of each part that a reason names stand where that stands of which elaboration made the part
-  pub places : (x : ExplainedData) → Contains (explanations_for order P (rel_of sets) assignment (row_at overs)) x → (method : Method) → slice_get P.methods x.method ≡ Some method → (v : Visit) → IsNamedBy x.why v
+  pub places : (x : ExplainedData) → Contains (explanations_for order P (rel_of sets) assignment (row_at overs) grounds) x → (method : Method) → slice_get P.methods x.method ≡ Some method → (v : Visit) → IsNamedBy x.why v
       → StandsInPlace tree (pages_of name file tree x.method) x.method method v
   -- status 2 comes exactly where there is one; else it is 0, and nothing is written
   pub refused : (call.status ≡ 2) ↔ (broken_for order P assignment ≢ [])

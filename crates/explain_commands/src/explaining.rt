@@ -6,7 +6,7 @@ ghost use Rattle.core_program.specs.Views.{program_of};
 ghost use Rattle.explain_commands.specs.Answers.{Explains};
 ghost use Rattle.explain_text.specs.Arrangements.{IsArrangedBlock};
 ghost use Rattle.explain_text.specs.ArrangementViews.{arranged_data};
-ghost use Rattle.explain_commands.specs.Orders.{explanations_for};
+ghost use Rattle.explain_commands.specs.Orders.{AreExplained, bounds_for, explanations_for};
 ghost use Rattle.explain_commands.specs.Explained.{AreTexts, AreAmongMethods, aliases_at, page_of, told_of};
 ghost use Rattle.explain.specs.Views.{explained_data};
 ghost use Rattle.rules.specs.Near.{rel_of};
@@ -17,7 +17,10 @@ use crate::told::Told;
 use crate::words::Order;
 use core_program::CoreProgram;
 use effects::Assigned;
-use explain::{Alias, Explained, Walk, aliases, explanations, strict_explanations};
+use explain::{
+    Alias, Bounds, Explained, Ground, Walk, aliases, explanations, find_grounds,
+    strict_explanations,
+};
 use explain_text::{Arranged, Page, arrange, write_arranged};
 use paths::MethodId;
 use places::{method_places, slot_names};
@@ -86,20 +89,46 @@ fn lines_of<A: Assigned>(
     Ok(text)
 }
 
+/// Which bounds are asked for.
+fn bounds_for(order: Order) -> Bounds
+    ensures { result ≡ bounds_for order }
+{
+    match order {
+        Order::Why => Bounds::Declared,
+        Order::All => Bounds::Declared,
+        Order::Strict => Bounds::Strict,
+    }
+}
+
 /// The explanations that are asked for.
 fn explanations_for<'p, A: Assigned>(
     order: Order,
     walk: &Walk<'p, A>,
     over: &OverridingMethods,
+    grounds: &[Ground],
 ) -> Result<Vec<Explained<'p>>, NoMemory>
     requires { length (program_of walk.now.program.now).methods ≤ 2 ^ 32 }
-    ensures { IfOk result (λ all. map explained_data all.items ≡ explanations_for order (program_of walk.now.program.now) (rel_of walk.now.sets.now) (A.Assigned.assigned walk.now.assigned.now) (row_at over.now)) }
+    ensures { IfOk result (λ all. map explained_data all.items ≡ explanations_for order (program_of walk.now.program.now) (rel_of walk.now.sets.now) (A.Assigned.assigned walk.now.assigned.now) (row_at over.now) grounds.now) }
 {
     match order {
-        Order::Why => explanations(walk, over),
-        Order::All => explanations(walk, over),
-        Order::Strict => strict_explanations(walk, over),
+        Order::Why => explanations(walk, over, grounds),
+        Order::All => explanations(walk, over, grounds),
+        Order::Strict => strict_explanations(walk, over, grounds),
     }
+}
+
+/// The explanations that are asked for, by ranks of all methods.
+fn all_for<'p, A: Assigned>(
+    order: Order,
+    walk: &Walk<'p, A>,
+    over: &OverridingMethods,
+) -> Result<Vec<Explained<'p>>, NoMemory>
+    requires { length (program_of walk.now.program.now).methods ≤ 2 ^ 32 }
+    ensures { IfOk result (λ all. AreExplained order (program_of walk.now.program.now) (rel_of walk.now.sets.now) (A.Assigned.assigned walk.now.assigned.now) (row_at over.now) (map explained_data all.items)) }
+{
+    let grounds = find_grounds(walk, over, bounds_for(order))?;
+    let all = explanations_for(order, walk, over, grounds.as_slice())?;
+    Ok(all)
 }
 
 /// The explanations of the methods that break their bounds.
@@ -114,7 +143,7 @@ pub(crate) fn explained<A: Assigned>(
         (page_of told.now.file.now told.now.index.now (table_data told.now.source.now.table) (map (λ m. member_of m.now) told.now.methods.now.items)) (string_bytes text)) }
 {
     let over = overriders(walk.alloc, walk.program)?;
-    let all = explanations_for(order, walk, &over)?;
+    let all = all_for(order, walk, &over)?;
     let arranged = arrange(walk, all)?;
     lines_of(told, walk, &over, arranged.as_slice())
 }

@@ -1,7 +1,8 @@
 -- The program whose explanations are computed (Shelf), parts and steps of every kind (Bodies), what of explanations is
--- compared (Outlines), what lines are written with: names, slots and places (Page), and methods that are errors (Errors).
+-- compared (Outlines), what lines are written with: names, slots and places (Page), and methods that are errors (Errors), and methods that call each other (Circles).
 pub mod Shelf
 pub mod Outlines
 pub mod Bodies
 pub mod Page
 pub mod Errors
+pub mod Circles

@@ -4,6 +4,7 @@
 pub mod arrangements;
 pub mod basics;
 pub mod causes;
+pub mod circles;
 pub mod deeds;
 pub mod lines;
 pub mod names;

@@ -15,7 +15,7 @@ ghost use Rattle.explain_examples.specs.Shelf.{shelf, shelf_paths, shelf_levels,
 
 /// What is told of the program, in order: each refused method with its reason, and behind one that calls a compound method that one, once.
 pub fn what_is_told()
-    ensures { map told_outline (explanations shelf shelf_paths shelf_levels (row_at overs)) ≡
+    ensures { map told_outline (explanations shelf shelf_paths shelf_levels (row_at overs) []) ≡
         record { method = 3; is_refused = true; limit = Atomic; found = Cmpd; why = two 1 4 }
         ∷ record { method = 4; is_refused = true; limit = Atomic; found = Cmpd; why = looped 4 1 }
         ∷ record { method = 5; is_refused = true; limit = Atomic; found = Cmpd; why = compound 2 }
@@ -35,15 +35,15 @@ pub fn what_is_told()
 
 /// Those of the refused methods, by themselves, where the methods are numbered from 2 on.
 pub fn which_methods_are_refused()
-    ensures { map told_outline (refused_from shelf shelf_paths shelf_levels (row_at overs) 2 (plain_method 0 102 false puts ∷ plain_method 0 103 true puts ∷ plain_method 0 104 false puts ∷ plain_method 0 105 true (block_of (run_method 2)) ∷ [])) ≡
+    ensures { map told_outline (refused_from shelf shelf_paths shelf_levels (row_at overs) [] 2 (plain_method 0 102 false puts ∷ plain_method 0 103 true puts ∷ plain_method 0 104 false puts ∷ plain_method 0 105 true (block_of (run_method 2)) ∷ [])) ≡
         record { method = 3; is_refused = true; limit = Atomic; found = Cmpd; why = two 1 4 } ∷ record { method = 5; is_refused = true; limit = Atomic; found = Cmpd; why = compound 2 } ∷ [] }
 {}
 
 /// Why a body with these steps is compound: those that aren't compound by themselves go first, and of the others those that call another method.
 pub fn which_steps_are_told()
-    ensures loops { map outline (steps_why 0 (write_visit 1 (Some 7) ∷ write_visit 2 None ∷ []) [] ∷ steps_why 0 (write_visit 1 None ∷ write_visit 2 (Some 7) ∷ []) [] ∷ steps_why 0 (write_visit 1 (Some 7) ∷ []) (call_visit 3 2 ∷ []) ∷ []) ≡ looped 1 7 ∷ two 1 2 ∷ looped 1 7 ∷ [] }
-    ensures compounds { map outline (steps_why 9 [] (call_visit 3 2 ∷ call_visit 4 5 ∷ []) ∷ steps_why 2 [] (call_visit 3 2 ∷ call_visit 4 5 ∷ []) ∷ steps_why 2 [] (call_visit 3 2 ∷ []) ∷ []) ≡ compound 3 ∷ compound 4 ∷ compound 3 ∷ [] }
-    ensures behind { map outline (steps_why 2 (write_visit 1 None ∷ []) (call_visit 3 2 ∷ call_visit 4 5 ∷ []) ∷ steps_why 2 (write_visit 1 None ∷ []) (call_visit 3 2 ∷ []) ∷ steps_why 2 (write_visit 1 None ∷ []) [] ∷ []) ≡ compound 4 ∷ two 1 3 ∷ nothing ∷ [] }
+    ensures loops { map outline (steps_why 0 false (write_visit 1 (Some 7) ∷ write_visit 2 None ∷ []) [] ∷ steps_why 0 false (write_visit 1 None ∷ write_visit 2 (Some 7) ∷ []) [] ∷ steps_why 0 false (write_visit 1 (Some 7) ∷ []) (call_visit 3 2 ∷ []) ∷ []) ≡ looped 1 7 ∷ two 1 2 ∷ looped 1 7 ∷ [] }
+    ensures compounds { map outline (steps_why 9 false [] (call_visit 3 2 ∷ call_visit 4 5 ∷ []) ∷ steps_why 2 false [] (call_visit 3 2 ∷ call_visit 4 5 ∷ []) ∷ steps_why 2 false [] (call_visit 3 2 ∷ []) ∷ []) ≡ compound 3 ∷ compound 4 ∷ compound 3 ∷ [] }
+    ensures behind { map outline (steps_why 2 false (write_visit 1 None ∷ []) (call_visit 3 2 ∷ call_visit 4 5 ∷ []) ∷ steps_why 2 false (write_visit 1 None ∷ []) (call_visit 3 2 ∷ []) ∷ steps_why 2 false (write_visit 1 None ∷ []) [] ∷ []) ≡ compound 4 ∷ two 1 3 ∷ nothing ∷ [] }
     ensures no_call { is_call_of_method 2 (StmtP EmptyS) ∷ is_call_of_method 2 (ExprP ThisE) ∷ [] ≡ false ∷ false ∷ [] }
     ensures alone { map (λ v. outline (only_step_why shelf shelf_paths shelf_levels v)) (call_visit 3 2 ∷ write_visit 4 (Some 1) ∷ write_visit 5 None ∷ []) ≡ compound 3 ∷ looped 4 1 ∷ nothing ∷ [] }
     ensures bodies { map (λ b. outline (body_why shelf shelf_paths shelf_levels 0 b (write_visit 1 None ∷ []) (call_visit 3 2 ∷ []))) (Error ∷ Cmpd ∷ []) ≡ wrong 1 ∷ compound 3 ∷ [] }
@@ -64,8 +64,8 @@ pub fn which_overriding_methods_are_told()
 pub fn where_explanations_lead()
     ensures called { map called_by (ExprP (CallE ThisE 7 no_exprs) ∷ ExprP ThisE ∷ StmtP EmptyS ∷ []) ≡ Some 7 ∷ None ∷ None ∷ [] }
     ensures led { map led_to (Wrong (call_visit 1 7) ∷ Looped (call_visit 1 7) 0 ∷ Compound (call_visit 1 7) ∷ Two (call_visit 1 7) (call_visit 2 7) ∷ Overridden 8 Cmpd ∷ Nothing ∷ []) ≡ None ∷ None ∷ Some 7 ∷ None ∷ Some 8 ∷ None ∷ [] }
-    ensures ends { map (λ told. map told_outline (if_untold shelf_levels told 2 (Some (plain_method 0 102 false puts)) (λ m. refused shelf shelf_paths shelf_levels (row_at overs) 2 m ∷ []))) ([] ∷ (false ∷ false ∷ true ∷ []) ∷ []) ≡ [] ∷ [] ∷ [] }
-    ensures fuel { map (λ fuel. map told_outline (led shelf shelf_paths shelf_levels (row_at overs) fuel (false ∷ false ∷ false ∷ []) (Some 2))) (0 ∷ 1 ∷ []) ≡ [] ∷ (record { method = 2; is_refused = false; limit = Atomic; found = Cmpd; why = two 1 4 } ∷ []) ∷ [] }
-    ensures circle { map (λ x. x.method) (led callers shelf_paths all_compound (λ m. []) 5 (false ∷ false ∷ []) (Some 0)) ≡ 0 ∷ 1 ∷ [] }
+    ensures ends { map (λ told. map told_outline (if_untold shelf_levels told 2 (Some (plain_method 0 102 false puts)) (λ m. refused shelf shelf_paths shelf_levels (row_at overs) [] 2 m ∷ []))) ([] ∷ (false ∷ false ∷ true ∷ []) ∷ []) ≡ [] ∷ [] ∷ [] }
+    ensures fuel { map (λ fuel. map told_outline (led shelf shelf_paths shelf_levels (row_at overs) [] fuel (false ∷ false ∷ false ∷ []) (Some 2))) (0 ∷ 1 ∷ []) ≡ [] ∷ (record { method = 2; is_refused = false; limit = Atomic; found = Cmpd; why = two 1 4 } ∷ []) ∷ [] }
+    ensures circle { map (λ x. x.method) (led callers shelf_paths all_compound (λ m. []) [] 5 (false ∷ false ∷ []) (Some 0)) ≡ 0 ∷ 1 ∷ [] }
     ensures marked { marked (false ∷ false ∷ false ∷ []) (2 ∷ 0 ∷ []) ≡ true ∷ false ∷ true ∷ [] }
 {}

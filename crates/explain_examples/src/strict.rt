@@ -25,8 +25,8 @@ pub fn what_strictness_asks()
 
 /// What is told of them.
 pub fn what_is_told_strictly()
-    ensures one { map told_outline (strictly_told locking_program no_locks all_compound (λ m. []) 0 (plain_method 0 0 false locked_put)) ≡
+    ensures one { map told_outline (strictly_told locking_program no_locks all_compound (λ m. []) [] 0 (plain_method 0 0 false locked_put)) ≡
         record { method = 0; is_refused = true; limit = Atomic; found = Cmpd; why = nothing } ∷ [] }
-    ensures kept { map told_outline (strictly_told locking_program no_locks all_compound (λ m. []) 1 (plain_method 0 0 false locked_put)) ≡ [] }
-    ensures those { map (λ x. x.method) (map told_outline (strict_from locking_program no_locks all_compound (λ m. []) 0 (plain_method 0 0 false locked_put ∷ plain_method 0 0 false locked_put ∷ plain_method 0 0 false locked_put ∷ []))) ≡ 0 ∷ 2 ∷ [] }
+    ensures kept { map told_outline (strictly_told locking_program no_locks all_compound (λ m. []) [] 1 (plain_method 0 0 false locked_put)) ≡ [] }
+    ensures those { map (λ x. x.method) (map told_outline (strict_from locking_program no_locks all_compound (λ m. []) [] 0 (plain_method 0 0 false locked_put ∷ plain_method 0 0 false locked_put ∷ plain_method 0 0 false locked_put ∷ []))) ≡ 0 ∷ 2 ∷ [] }
 {}

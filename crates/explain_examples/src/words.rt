@@ -9,7 +9,7 @@ ghost use Rattle.explain.specs.declared.deeds.Help.TheVariants as helps;
 ghost use Rattle.explain.specs.declared.names.Lack.TheVariants as lack;
 ghost use Rattle.explain.specs.Whys.{Wrong, Looped, Compound, Two, Overridden, Nothing};
 ghost use Rattle.explain_text.specs.CauseTexts.{cause_text};
-ghost use Rattle.explain_text.specs.Codes.{cause_code, ending, help_code, step_code, step_lead, why_code};
+ghost use Rattle.explain_text.specs.Codes.{cause_code, ending, help_code, spoken_kind, step_code, step_lead, why_code};
 ghost use Rattle.explain_text.specs.declared.codes.StepKind.TheVariants as kind;
 ghost use Rattle.explain_text.specs.DeedTexts.{deed_text, help_text, may_stay};
 ghost use Rattle.explain_text.specs.Words.{access_text, field_title, held_list_text, lack_text, path_in, slot_in};
@@ -68,6 +68,8 @@ pub fn which_codes_lines_have()
         codes "lock-error" ∷ codes "step-in-a-loop" ∷ codes "compound-call" ∷ codes "two-steps" ∷ codes "overriding-method" ∷ codes "no-reason" ∷ [] }
     ensures causes { map cause_code (cause.Bare None 0 false this_path None ∷ cause.Nameless 0 false lack.Long ∷ cause.Lacking 0 this_path this_path None ∷ cause.LackingName 0 this_path lack.Long ∷ cause.Refused 0 ∷ cause.Other ∷ []) ≡
         codes "guard-not-held" ∷ codes "guard-unnamed" ∷ codes "required-not-held" ∷ codes "required-unnamed" ∷ codes "calls-an-error" ∷ codes "other-error" ∷ [] }
+    ensures spoken { map (λ b. map (λ k. spoken_kind k b) (kind.First ∷ kind.Second ∷ kind.Repeated ∷ kind.Compound ∷ [])) (false ∷ true ∷ []) ≡
+        (kind.First ∷ kind.Second ∷ kind.Repeated ∷ kind.Compound ∷ []) ∷ (kind.Compound ∷ kind.Second ∷ kind.Compound ∷ kind.Compound ∷ []) ∷ [] }
     ensures leads { map step_lead (kind.First ∷ kind.Second ∷ kind.Repeated ∷ kind.Compound ∷ []) ≡ codes "atomic step: " ∷ codes "a second one: " ∷ codes "atomic step: " ∷ codes "compound step: " ∷ [] }
     ensures steps { map step_code (kind.First ∷ kind.Second ∷ kind.Repeated ∷ kind.Compound ∷ []) ≡ codes "first-step" ∷ codes "second-step" ∷ codes "repeated-step" ∷ codes "compound-step" ∷ [] }
     ensures helps { map help_code (helps.Hold this_path None ∷ helps.Unguarded ∷ helps.WritesOnly ∷ helps.Unnamed lack.Long ∷ helps.ReceiverUnnamed lack.Long ∷ helps.NoneNamed ∷ helps.Seen ∷ []) ≡

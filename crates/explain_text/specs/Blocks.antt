@@ -5,6 +5,7 @@ use Rattle.algebra.specs.Basics.{below_of, name_of}
 use Rattle.core_program.specs.Core.{Program, Method}
 use Rattle.explain.specs.declared.names.Alias.{Alias}
 use Rattle.explain.specs.declared.causes.Cause.{Cause}
+use Rattle.explain.specs.declared.deeds.Deed.{Deed}
 use Rattle.explain.specs.declared.deeds.Help.{Help}
 use Rattle.explain.specs.Around.{around}
 use Rattle.explain.specs.Causes.{ArePaths, cause_of}
@@ -18,9 +19,9 @@ use Rattle.explain.specs.Visits.{Visit}
 use Rattle.explain_text.specs.Pages.{PageData, node_offset, words_before_kind, note_line}
 use Rattle.explain_text.specs.declared.codes.StepKind.{StepKind}
 use Rattle.explain_text.specs.declared.codes.StepKind.TheVariants as kind
-use Rattle.explain_text.specs.Codes.{cause_code, ending, help_code, step_code, step_lead, why_code}
+use Rattle.explain_text.specs.Codes.{cause_code, ending, help_code, spoken_kind, step_code, step_lead, why_code}
 use Rattle.explain_text.specs.CauseTexts.{cause_text}
-use Rattle.explain_text.specs.DeedTexts.{deed_text, help_text, may_stay}
+use Rattle.explain_text.specs.DeedTexts.{deed_text, help_text, is_compound, may_stay}
 use Rattle.explain_text.specs.Words.{path_in}
 
 -- the offset of a method's name; 0 where there is no such method
@@ -74,6 +75,10 @@ around_line P page m limit p = note_line page (method_name_offset (slice_get P.m
 abbrev pub cause_line : PageData → ℕ → List PathData → Cause → List ℕ
 cause_line page node held cause = note_line page (node_offset page node) (cause_text page held cause) (cause_code cause)
 
+-- a step: which one it is, and what it does
+abbrev pub step_text : PageData → StepKind → Deed → List ℕ
+step_text page kind deed = step_lead (spoken_kind kind (is_compound deed)) ++ deed_text page deed
+
 -- so many more methods are refused for a call of the method that the line before names
 abbrev pub more_text : ℕ → List ℕ
 more_text n = if n == 1 then codes "1 more method is refused for a call of it" else decimal n ++ codes " more methods are refused for a call of it"
@@ -90,7 +95,9 @@ more_lines page why n = if n == 0 then [] else more_line page why n
 module _ (P : Program) (rel : ℕ → List PathData) (A : Assignment) (page : PageData) where
   -- what a step does, where these methods override each
   abbrev pub step_line : (overs : ℕ → List ℕ) → StepKind → Visit → List ℕ
-  step_line overs kind v = note_line page (node_offset page v.node) (step_lead kind ++ deed_text page (deed_of_part P rel A overs v.part v.held)) (step_code kind)
+  step_line overs kind v =
+      let deed = deed_of_part P rel A overs v.part v.held in
+      note_line page (node_offset page v.node) (step_text page kind deed) (step_code kind)
 
   -- a help, as the line of a step
   abbrev pub help_note : ℕ → Help → List ℕ

@@ -1,5 +1,5 @@
 -- The codes of lines: each kind of line ends in its own, so that a program that reads lines needs no English.
-use Rattle.std.specs.Prelude.{ℕ, List, ◌++◌, codes}
+use Rattle.std.specs.Prelude.{ℕ, Bool, true, false, List, ◌++◌, codes}
 use Rattle.explain.specs.declared.causes.Cause.{Cause}
 use Rattle.explain.specs.declared.causes.Cause.TheVariants as cause
 use Rattle.explain.specs.declared.deeds.Help.{Help}
@@ -36,6 +36,15 @@ step_lead kind.First = codes "atomic step: "
 step_lead kind.Second = codes "a second one: "
 step_lead kind.Repeated = codes "atomic step: "
 step_lead kind.Compound = codes "compound step: "
+
+-- the kind whose words stand before a step: one that isn't called a second one is called compound where it is
+abbrev pub spoken_kind : StepKind → (is_compound : Bool) → StepKind
+spoken_kind kind.First true = kind.Compound
+spoken_kind kind.First false = kind.First
+spoken_kind kind.Second is_compound = kind.Second
+spoken_kind kind.Repeated true = kind.Compound
+spoken_kind kind.Repeated false = kind.Repeated
+spoken_kind kind.Compound is_compound = kind.Compound
 
 -- of the line of a step
 abbrev pub step_code : StepKind → List ℕ

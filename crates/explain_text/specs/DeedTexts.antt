@@ -6,6 +6,7 @@ use Rattle.explain.specs.declared.deeds.Deed.{Deed}
 use Rattle.explain.specs.declared.deeds.Deed.TheVariants as deed
 use Rattle.explain.specs.declared.deeds.Help.{Help}
 use Rattle.explain.specs.declared.deeds.Help.TheVariants as helps
+use Rattle.explain.specs.StepReadings.{is_cmpd}
 use Rattle.paths.specs.Paths.{PathData}
 use Rattle.report.specs.Verdicts.{title_text}
 use Rattle.rules.specs.declared.guard.Guard.{Guard}
@@ -36,6 +37,11 @@ deed_text page (deed.Locks p) = codes "takes the lock of " ++ path_in page p ++ 
 deed_text page deed.Prints = codes "prints"
 deed_text page deed.Starts = codes "starts a thread"
 deed_text page deed.Other = codes "a step"
+
+-- whether a step is compound by itself: only a call can be
+abbrev pub is_compound : Deed → Bool
+is_compound (deed.Calls m b taken) = is_cmpd b
+is_compound _ = false
 
 -- the other name under which a lock is held, if there is one
 abbrev pub second_text : PageData → Option PathData → List ℕ

@@ -2,7 +2,7 @@
 
 ghost use Rattle.std.specs.Prelude.{◌≡◌};
 ghost use Rattle.explain.specs.Views.{why_data};
-ghost use Rattle.explain_text.specs.Codes.{cause_code, ending, help_code, step_code, step_lead, why_code};
+ghost use Rattle.explain_text.specs.Codes.{cause_code, ending, help_code, spoken_kind, step_code, step_lead, why_code};
 
 use explain::{Cause, Help, Why};
 
@@ -17,6 +17,20 @@ pub enum StepKind {
     Repeated,
     /// One that is compound by itself.
     Compound,
+}
+
+/// The kind whose words stand before a step.
+pub(crate) fn spoken_kind(kind: StepKind, is_compound: bool) -> StepKind
+    ensures { result ≡ spoken_kind kind is_compound }
+{
+    match (kind, is_compound) {
+        (StepKind::First, true) => StepKind::Compound,
+        (StepKind::First, false) => StepKind::First,
+        (StepKind::Second, _) => StepKind::Second,
+        (StepKind::Repeated, true) => StepKind::Compound,
+        (StepKind::Repeated, false) => StepKind::Repeated,
+        (StepKind::Compound, _) => StepKind::Compound,
+    }
 }
 
 /// The words before what a step does.

@@ -2,7 +2,7 @@
 
 ghost use Rattle.std.specs.Prelude.{◌≡◌, ◌++◌, codes, string_bytes, OnOk};
 ghost use Rattle.algebra.specs.Basics.{name_of};
-ghost use Rattle.explain_text.specs.DeedTexts.{deed_text, guard_text, help_text, is_lock, may_stay, second_text, takes_text};
+ghost use Rattle.explain_text.specs.DeedTexts.{deed_text, guard_text, help_text, is_compound, is_lock, may_stay, second_text, takes_text};
 ghost use Rattle.explain_text.specs.Views.{page_data};
 
 use crate::page::Page;
@@ -13,6 +13,21 @@ use paths::Path;
 use report::write_title;
 use rules::Guard;
 use std::alloc::AllocError as NoMemory;
+
+/// Whether a step is compound by itself.
+pub(crate) fn is_compound(deed: &Deed) -> bool
+    ensures { result ≡ is_compound deed.now }
+{
+    match deed {
+        Deed::Calls(_, basic, _) => *basic == Basic::Cmpd,
+        Deed::Reads(_, _, _)
+        | Deed::Writes(_, _, _)
+        | Deed::Locks(_)
+        | Deed::Prints
+        | Deed::Starts
+        | Deed::Other => false,
+    }
+}
 
 /// Writes how the field of an access is guarded.
 fn write_guard(out: &mut String, page: &Page<'_, '_>, guard: &Guard) -> Result<(), NoMemory>

@@ -7,15 +7,15 @@ ghost use Rattle.rules.specs.Search.{row_at};
 ghost use Rattle.explain.specs.Around.{around};
 ghost use Rattle.explain.specs.Whys.{Looped, Compound, Two};
 ghost use Rattle.explain.specs.Views.{visit_of};
-ghost use Rattle.explain_text.specs.Blocks.{around_line, around_text, help_line, help_lines, helps, step_line, steps_lines};
-ghost use Rattle.explain_text.specs.Codes.{ending, help_code, step_code, step_lead};
-ghost use Rattle.explain_text.specs.DeedTexts.{deed_text, help_text, may_stay};
+ghost use Rattle.explain_text.specs.Blocks.{around_line, around_text, help_line, help_lines, helps, step_line, step_text, steps_lines};
+ghost use Rattle.explain_text.specs.Codes.{ending, help_code, step_code};
+ghost use Rattle.explain_text.specs.DeedTexts.{help_text, may_stay};
 ghost use Rattle.explain_text.specs.Pages.{note_front};
 ghost use Rattle.explain_text.specs.Views.{page_data};
 
 use crate::blocks::name_offset;
-use crate::codes::{StepKind, help_ending, step_ending, step_lead};
-use crate::deeds::{may_stay, write_deed, write_help};
+use crate::codes::{StepKind, help_ending, spoken_kind, step_ending, step_lead};
+use crate::deeds::{is_compound, may_stay, write_deed, write_help};
 use crate::page::{Page, begin_line, note_front, write_note};
 use crate::words::write_path;
 use algebra::Basic;
@@ -55,9 +55,10 @@ fn write_step_text(
     kind: StepKind,
     deed: &Deed,
 ) -> Result<(), NoMemory>
-    ensures { OnOk result (string_bytes out.new ≡ string_bytes out.old ++ (step_lead kind ++ deed_text (page_data page.now) deed.now)) }
+    ensures { OnOk result (string_bytes out.new ≡ string_bytes out.old ++ step_text (page_data page.now) kind deed.now) }
 {
-    out.push_str(step_lead(kind))?;
+    let spoken = spoken_kind(kind, is_compound(deed));
+    out.push_str(step_lead(spoken))?;
     write_deed(out, page, deed)
 }
 
@@ -69,7 +70,7 @@ fn write_step_line(
     kind: StepKind,
     deed: &Deed,
 ) -> Result<(), NoMemory>
-    ensures { OnOk result (string_bytes out.new ≡ string_bytes out.old ++ (front.now ++ (step_lead kind ++ deed_text (page_data page.now) deed.now) ++ ending (step_code kind))) }
+    ensures { OnOk result (string_bytes out.new ≡ string_bytes out.old ++ (front.now ++ step_text (page_data page.now) kind deed.now ++ ending (step_code kind))) }
 {
     out.push_str(front)?;
     write_step_text(out, page, kind, deed)?;

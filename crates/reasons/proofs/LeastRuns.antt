@@ -15,18 +15,16 @@ use Rattle.core_program.specs.Dispatch.{Overrides}
 use Rattle.infer.specs.Least.{IsLeast}
 use Rattle.rules.specs.Effect.{Assignment, effect}
 use Rattle.rules.specs.Overriding.{AreOverriders}
-use Rattle.rules.specs.Rules.{AtMost, IsSubset, IsAntitone, IsClosed, held_in}
+use Rattle.rules.specs.Rules.{AtMost, IsSubset, IsAntitone, IsClosed, declared_bound, held_in}
 use Rattle.rules.specs.Search.{row_at}
 use Rattle.rules.proofs.BasicLemmas.{below_chain, below_itself}
 use Rattle.rules.proofs.EffectRises.{stmt_rises}
 use Rattle.rules.proofs.Falling.{stmt_falls}
 use Rattle.rules.proofs.SetLemmas.{all_has, all_part, first, second}
+use Rattle.explain.specs.Grounds.{lesser}
 use Rattle.explain.specs.Meanings.{are_within}
 
 -- ---- the lesser of two basics
-
-abbrev lesser : Basic → Basic → Basic
-lesser a b = if below_of a b then a else b
 
 pub either_way : (a b : Basic) → below_of a b ≡ false → below_of b a ≡ true
 either_way Const Const e = absurd cc
@@ -55,26 +53,30 @@ either_way Error Atomic e = refl
 either_way Error Cmpd e = refl
 either_way Error Error e = absurd cc
 
-lesser_first : (a b : Basic) → AtMost (lesser a b) a
+pub lesser_first : (a b : Basic) → AtMost (lesser a b) a
 lesser_first a b = by (below_of a b) refl
   where
     by : (t : Bool) → below_of a b ≡ t → AtMost (if t then a else b) a
     by true is = below_itself a
     by false is = either_way a b is
 
-lesser_second : (a b : Basic) → AtMost (lesser a b) b
+pub lesser_second : (a b : Basic) → AtMost (lesser a b) b
 lesser_second a b = by (below_of a b) refl
   where
     by : (t : Bool) → below_of a b ≡ t → AtMost (if t then a else b) b
     by true is = is
     by false is = below_itself b
 
-below_lesser : (x a b : Basic) → AtMost x a → AtMost x b → AtMost x (lesser a b)
+pub below_lesser : (x a b : Basic) → AtMost x a → AtMost x b → AtMost x (lesser a b)
 below_lesser x a b low high = by (below_of a b)
   where
     by : (t : Bool) → AtMost x (if t then a else b)
     by true = low
     by false = high
+
+pub bound_atomic : (annotated : Bool) → AtMost Atomic (declared_bound annotated)
+bound_atomic true = refl
+bound_atomic false = refl
 
 -- ---- sets
 
@@ -84,10 +86,10 @@ all_in [] H part = refl
 all_in (p ∷ ps) H part =
     and_from (H p) (list_all H ps) (part p (or_left (path_eq p p) (has_path ps p) (eq_itself p))) (all_in ps H (λ q has. part q (or_right (path_eq p q) (has_path ps q) has)))
 
-in_rel : (rel : List PathData) (H : Held) → IsSubset (held_in rel H) (has_path rel)
+pub in_rel : (rel : List PathData) (H : Held) → IsSubset (held_in rel H) (has_path rel)
 in_rel rel H q e = first (has_path rel q) (H q) e
 
-in_more : (rel : List PathData) (H K : Held) → IsSubset H K → IsSubset (held_in rel H) (held_in rel K)
+pub in_more : (rel : List PathData) (H K : Held) → IsSubset H K → IsSubset (held_in rel H) (held_in rel K)
 in_more rel H K part q e = and_from (has_path rel q) (K q) (first (has_path rel q) (H q) e) (part q (second (has_path rel q) (H q) e))
 
 module _ (P : Program) (rel : ℕ → List PathData) (A : Assignment) (rows : List (List ℕ)) (least : IsLeast P rel A) (are : AreOverriders P rows)

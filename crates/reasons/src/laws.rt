@@ -18,7 +18,13 @@ ghost use Rattle.rules.specs.Search.{row_at};
 ghost use Rattle.explain.specs.declared.names.Alias.{Alias};
 ghost use Rattle.explain.specs.Causes.{cause_of};
 ghost use Rattle.explain.specs.Deeds.{help_of};
-ghost use Rattle.explain.specs.Meanings.{are_within, IsReasonOf};
+ghost use Rattle.explain.specs.declared.grounds.Ground.{Ground};
+ghost use Rattle.explain.specs.declared.ranking.Bounds.{Bounds};
+ghost use Rattle.explain.specs.declared.ranking.Bounds.TheVariants.{Declared, Strict};
+ghost use Rattle.explain.specs.Grounds.{level_at};
+ghost use Rattle.explain.specs.Leads.{AreGrounded, IsReasonChain, IsReasonBy};
+ghost use Rattle.explain.specs.Meanings.{are_within};
+ghost use Rattle.explain.specs.Ranking.{AreAllRanked};
 ghost use Rattle.explain.specs.Programs.{explanations};
 ghost use Rattle.explain.specs.Strict.{IsStrictlyAccepted, keep_all, strict_explanations};
 ghost use Rattle.explain.specs.Whys.{ExplainedData, Wrong};
@@ -35,38 +41,52 @@ pub fn least_laws()
         (limit : Basic) → are_within P rel A (row_at rows m) method limit ≡ true → AtMost (A m (has_path method.requires_)) limit }
 {}
 
+/// In a typed program's least closed assignment each method that is more than it may be gets a rank, by which its explanation leads nowhere
+/// or to a method of smaller rank.
+pub fn ground_laws()
+    ensures { (P : Program) (sets : List MethodPaths) (A : Assignment) (rows : List (List ℕ)) →
+        IsTyped P → AreRelevant P sets → IsLeast P (rel_of sets) A → AreOverriders P rows → (bounds : Bounds) (grounds : List Ground) →
+        AreAllRanked bounds P (rel_of sets) A (row_at rows) grounds → AreGrounded bounds P (rel_of sets) A (row_at rows) grounds }
+{}
+
 /// Of a typed program's least closed assignment: each method that is told is more than it may be, also one to which another leads; and it
-/// has a reason, which is so. Of an access or call that lacks a lock the cause is so, too.
+/// has a reason, which is so. Of an access or call that lacks a lock the cause is so, too. And explanations don't lead in a circle.
 pub fn told_laws()
     ensures above { (P : Program) (sets : List MethodPaths) (A : Assignment) (rows : List (List ℕ)) →
-        IsTyped P → AreRelevant P sets → IsLeast P (rel_of sets) A → AreOverriders P rows →
-        (x : ExplainedData) → Contains (explanations P (rel_of sets) A (row_at rows)) x → below_of x.found x.limit ≡ false }
+        IsTyped P → AreRelevant P sets → IsLeast P (rel_of sets) A → AreOverriders P rows → (grounds : List Ground) → AreGrounded Declared P (rel_of sets) A (row_at rows) grounds →
+        (x : ExplainedData) → Contains (explanations P (rel_of sets) A (row_at rows) grounds) x → below_of x.found x.limit ≡ false }
     ensures reason { (P : Program) (sets : List MethodPaths) (A : Assignment) (rows : List (List ℕ)) →
-        IsTyped P → AreRelevant P sets → IsLeast P (rel_of sets) A → AreOverriders P rows →
-        (x : ExplainedData) → Contains (explanations P (rel_of sets) A (row_at rows)) x →
+        IsTyped P → AreRelevant P sets → IsLeast P (rel_of sets) A → AreOverriders P rows → (grounds : List Ground) → AreGrounded Declared P (rel_of sets) A (row_at rows) grounds →
+        (x : ExplainedData) → Contains (explanations P (rel_of sets) A (row_at rows) grounds) x →
         (method : Method) → slice_get P.methods x.method ≡ Some method →
-        IsReasonOf P (rel_of sets) A (row_at rows x.method) method x.limit x.why }
+        IsReasonBy P (rel_of sets) A (row_at rows x.method) method (level_at grounds x.method) x.limit x.why }
     ensures cause { (P : Program) (sets : List MethodPaths) (A : Assignment) (rows : List (List ℕ)) →
-        IsTyped P → AreRelevant P sets → IsLeast P (rel_of sets) A → AreOverriders P rows →
-        (x : ExplainedData) → Contains (explanations P (rel_of sets) A (row_at rows)) x → (v : Visit) → x.why ≡ Wrong v →
+        IsTyped P → AreRelevant P sets → IsLeast P (rel_of sets) A → AreOverriders P rows → (grounds : List Ground) → AreGrounded Declared P (rel_of sets) A (row_at rows) grounds →
+        (x : ExplainedData) → Contains (explanations P (rel_of sets) A (row_at rows) grounds) x → (v : Visit) → x.why ≡ Wrong v →
         (aliases : List Alias) → IsCause P (rel_of sets) A v.held v.part (cause_of P (rel_of sets) aliases v.held v.part) }
+    ensures circle { (P : Program) (sets : List MethodPaths) (A : Assignment) (rows : List (List ℕ)) →
+        IsTyped P → AreRelevant P sets → IsLeast P (rel_of sets) A → AreOverriders P rows → (grounds : List Ground) → AreGrounded Declared P (rel_of sets) A (row_at rows) grounds →
+        (x : ExplainedData) → IsReasonChain P (rel_of sets) (explanations P (rel_of sets) A (row_at rows) grounds) x x → ⊥ }
 {}
 
 /// The same of what is told where each method counts as `atomic` but those that threads begin with. All keep these bounds in the least closed
 /// assignment exactly where some falling and closed one keeps them.
 pub fn strict_laws()
     ensures above { (P : Program) (sets : List MethodPaths) (A : Assignment) (rows : List (List ℕ)) →
-        IsTyped P → AreRelevant P sets → IsLeast P (rel_of sets) A → AreOverriders P rows →
-        (x : ExplainedData) → Contains (strict_explanations P (rel_of sets) A (row_at rows)) x → below_of x.found x.limit ≡ false }
+        IsTyped P → AreRelevant P sets → IsLeast P (rel_of sets) A → AreOverriders P rows → (grounds : List Ground) → AreGrounded Strict P (rel_of sets) A (row_at rows) grounds →
+        (x : ExplainedData) → Contains (strict_explanations P (rel_of sets) A (row_at rows) grounds) x → below_of x.found x.limit ≡ false }
     ensures reason { (P : Program) (sets : List MethodPaths) (A : Assignment) (rows : List (List ℕ)) →
-        IsTyped P → AreRelevant P sets → IsLeast P (rel_of sets) A → AreOverriders P rows →
-        (x : ExplainedData) → Contains (strict_explanations P (rel_of sets) A (row_at rows)) x →
+        IsTyped P → AreRelevant P sets → IsLeast P (rel_of sets) A → AreOverriders P rows → (grounds : List Ground) → AreGrounded Strict P (rel_of sets) A (row_at rows) grounds →
+        (x : ExplainedData) → Contains (strict_explanations P (rel_of sets) A (row_at rows) grounds) x →
         (method : Method) → slice_get P.methods x.method ≡ Some method →
-        IsReasonOf P (rel_of sets) A (row_at rows x.method) method x.limit x.why }
+        IsReasonBy P (rel_of sets) A (row_at rows x.method) method (level_at grounds x.method) x.limit x.why }
     ensures cause { (P : Program) (sets : List MethodPaths) (A : Assignment) (rows : List (List ℕ)) →
-        IsTyped P → AreRelevant P sets → IsLeast P (rel_of sets) A → AreOverriders P rows →
-        (x : ExplainedData) → Contains (strict_explanations P (rel_of sets) A (row_at rows)) x → (v : Visit) → x.why ≡ Wrong v →
+        IsTyped P → AreRelevant P sets → IsLeast P (rel_of sets) A → AreOverriders P rows → (grounds : List Ground) → AreGrounded Strict P (rel_of sets) A (row_at rows) grounds →
+        (x : ExplainedData) → Contains (strict_explanations P (rel_of sets) A (row_at rows) grounds) x → (v : Visit) → x.why ≡ Wrong v →
         (aliases : List Alias) → IsCause P (rel_of sets) A v.held v.part (cause_of P (rel_of sets) aliases v.held v.part) }
+    ensures circle { (P : Program) (sets : List MethodPaths) (A : Assignment) (rows : List (List ℕ)) →
+        IsTyped P → AreRelevant P sets → IsLeast P (rel_of sets) A → AreOverriders P rows → (grounds : List Ground) → AreGrounded Strict P (rel_of sets) A (row_at rows) grounds →
+        (x : ExplainedData) → IsReasonChain P (rel_of sets) (strict_explanations P (rel_of sets) A (row_at rows) grounds) x x → ⊥ }
     ensures decides { (P : Program) (sets : List MethodPaths) (A : Assignment) →
         IsTyped P → AreRelevant P sets → AreFew sets → IsLeast P (rel_of sets) A → (keep_all P A ≡ true) ↔ IsStrictlyAccepted P }
 {}

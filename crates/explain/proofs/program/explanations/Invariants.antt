@@ -11,4 +11,4 @@ use Rattle.explain.proofs.program.explanations.Given as goal
 abbrev pub invariant-loop-m : goal.invariant-loop-m
 invariant-loop-m g l =
     let P = program_of l.walk.program.now in let rel = rel_of l.walk.sets.now in let A = g.A.Assigned.assigned l.walk.assigned.now in let overs = row_at l.over in
-    map explained_data l.all.items ++ explanations_from P rel A overs l.told.items l.m (map method_of (drop l.m l.methods)) ≡ explanations P rel A overs
+    map explained_data l.all.items ++ explanations_from P rel A overs l.grounds l.told.items l.m (map method_of (drop l.m l.methods)) ≡ explanations P rel A overs l.grounds

@@ -11,15 +11,15 @@ use Rattle.explain.proofs.program.follow.Goals as goal
 
 pub loop-init : goal.loop-init
 loop-init g c =
-    follows_first (program_of c.args.walk.now.program.now) (rel_of c.args.walk.now.sets.now) (g.A.Assigned.assigned c.args.walk.now.assigned.now) (row_at c.args.over.now) c.args.most c.args.first c.args.told.now.items
+    follows_first (program_of c.args.basis.now.walk.now.program.now) (rel_of c.args.basis.now.walk.now.sets.now) (g.A.Assigned.assigned c.args.basis.now.walk.now.assigned.now) (row_at c.args.basis.now.over.now) c.args.basis.now.grounds.now c.args.most c.args.first c.args.told.now.items
     (map explained_data c.args.all.now.items)
 
 pub loop-preserved : goal.loop-preserved
 loop-preserved g c =
-    let P = program_of c.args.walk.now.program.now in
-    let A = g.A.Assigned.assigned c.args.walk.now.assigned.now in
+    let P = program_of c.args.basis.now.walk.now.program.now in
+    let A = g.A.Assigned.assigned c.args.basis.now.walk.now.assigned.now in
     let method = method_of c.in-Some.found.method.now in
-    follows_more P (rel_of c.args.walk.now.sets.now) A (row_at c.args.over.now) c.args.most c.loop.counter c.args.first c.args.told.now.items (map explained_data c.args.all.now.items)
+    follows_more P (rel_of c.args.basis.now.walk.now.sets.now) A (row_at c.args.basis.now.over.now) c.args.basis.now.grounds.now c.args.most c.loop.counter c.args.first c.args.told.now.items (map explained_data c.args.all.now.items)
     c.loop.next c.loop.told.items (map explained_data c.loop.all.items) c.in-Some.found.id method (explained_data c.in_ok-x.x) c.led_to-next.result
     (slice_set c.loop.told.items c.id.inside.0 true) (map explained_data c.push.new.self.items) c.loop-test.true c.loop.invariant
     (subst (λ t. IsToldNext P A t c.loop.next c.in-Some.found.id method) c.as_slice.ensures.value c.in-Some.ensures.some)

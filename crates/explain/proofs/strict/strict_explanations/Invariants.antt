@@ -10,4 +10,4 @@ use Rattle.explain.proofs.strict.strict_explanations.Given as goal
 abbrev pub invariant-loop-m : goal.invariant-loop-m
 invariant-loop-m g l =
     let P = program_of l.walk.program.now in let rel = rel_of l.walk.sets.now in let A = g.A.Assigned.assigned l.walk.assigned.now in
-    map explained_data l.all.items ++ strict_from P rel A (row_at l.over) l.m (map method_of (drop l.m l.method-items)) ≡ strict_from P rel A (row_at l.over) 0 (map method_of l.method-items)
+    map explained_data l.all.items ++ strict_from P rel A (row_at l.over) l.grounds l.m (map method_of (drop l.m l.method-items)) ≡ strict_from P rel A (row_at l.over) l.grounds 0 (map method_of l.method-items)

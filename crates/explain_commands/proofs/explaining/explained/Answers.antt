@@ -24,9 +24,9 @@ lines_of-requires g c =
     let A = g.A.Assigned.assigned c.args.walk.now.assigned.now in
     let overs = row_at c.in_ok-over.over in
     let n = length c.args.told.now.methods.now.items in
-    let there = within_more (length P.methods) n _ c.requires.there (there_for P rel A overs c.args.order) in
-    let are = arranged_in c.as_slice.result.now c.in_ok-arranged.arranged.items _ c.as_slice.ensures.value (c.in_ok-arranged.ensures ∙ ap (arranged P rel) c.in_ok-all.ensures) in
-    subst (λ xs. AreAmongMethods n (told_of xs)) (sym are) (arranged_within P rel n (explanations_for c.args.order P rel A overs) there)
+    let there = within_more (length P.methods) n _ c.requires.there (there_for P rel A overs c.in_ok-all.ensures.grounds c.args.order) in
+    let are = arranged_in c.as_slice.result.now c.in_ok-arranged.arranged.items _ c.as_slice.ensures.value (c.in_ok-arranged.ensures ∙ ap (arranged P rel) c.in_ok-all.ensures.xs_are) in
+    subst (λ xs. AreAmongMethods n (told_of xs)) (sym are) (arranged_within P rel n (explanations_for c.args.order P rel A overs c.in_ok-all.ensures.grounds) there)
 
 pub returns : goal.returns
 returns g c =
@@ -37,11 +37,13 @@ returns g c =
     let A = g.A.Assigned.assigned walk.assigned.now in
     let overs = row_at c.in_ok-over.over in
     let pages = page_of told.file.now told.index.now (table_data told.source.now.table) (map (λ m. member_of m.now) told.methods.now.items) in
-    let are = arranged_in c.as_slice.result.now c.in_ok-arranged.arranged.items _ c.as_slice.ensures.value (c.in_ok-arranged.ensures ∙ ap (arranged P rel) c.in_ok-all.ensures) in
+    let are = arranged_in c.as_slice.result.now c.in_ok-arranged.arranged.items _ c.as_slice.ensures.value (c.in_ok-arranged.ensures ∙ ap (arranged P rel) c.in_ok-all.ensures.xs_are) in
     IfOk-weaker c.lines_of.result (λ text. AreTexts P rel A pages overs (map arranged_data c.as_slice.result.now) (string_bytes text)) (λ text. Explains c.args.order P rel A pages (string_bytes text))
     (λ text texts. record {
       overs = c.in_ok-over.over;
       are_overs = c.in_ok-over.ensures;
+      grounds = c.in_ok-all.ensures.grounds;
+      are_grounds = c.in_ok-all.ensures.are_grounds;
       texts = subst (λ xs. AreTexts P rel A pages overs xs (string_bytes text)) are texts;
     })
     c.lines_of.ensures

@@ -1,4 +1,4 @@
-use Rattle.reasons.proofs.Strictly.{strictly_above, strictly_causes, strictly_decides, strictly_reasons}
+use Rattle.reasons.proofs.Strictly.{strictly_above, strictly_causes, strictly_decides, strictly_end, strictly_reasons}
 use Rattle.reasons.proofs.laws.strict_laws.Goals as goal
 
 pub returns-clause-above : goal.returns-clause-above
@@ -12,3 +12,6 @@ returns-clause-cause c = strictly_causes
 
 pub returns-clause-decides : goal.returns-clause-decides
 returns-clause-decides c = strictly_decides
+
+pub returns-clause-circle : goal.returns-clause-circle
+returns-clause-circle c = strictly_end

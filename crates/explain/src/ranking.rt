@@ -1,0 +1,296 @@
+//! Ranks of methods, by which their explanations don't lead in a circle.
+
+ghost use Rattle.std.specs.Prelude.{◌≡◌, ◌≤◌, ◌<◌, ◌+◌, ◌^◌, ℕ, List, false, true, Some, length, slice_get, IfOk, OnOk};
+ghost use Rattle.algebra.specs.declared.basic.Basic.TheVariants.{Atomic};
+ghost use Rattle.core_program.specs.Core.{Program};
+ghost use Rattle.core_program.specs.Views.{method_of, program_of};
+ghost use Rattle.paths.specs.Paths.{PathData};
+ghost use Rattle.rules.specs.Effect.{Assignment};
+ghost use Rattle.rules.specs.Near.{rel_of};
+ghost use Rattle.rules.specs.Rules.{AtMost};
+ghost use Rattle.rules.specs.Search.{row_at};
+ghost use Rattle.explain.specs.declared.ranking.Bounds.{Bounds};
+ghost use Rattle.explain.specs.Leads.{limit_for, told_limit};
+ghost use Rattle.explain.specs.Ranking.{AreAllRanked, AreRanked, AreStuck, first_ground, first_grounds, ground_by, is_stuck_at, may_rank, open_rank};
+
+use crate::explaining::why_more;
+use crate::grounds::{Ground, Lowered, is_reason, leads_below, rank_at, reason_lead, why_known};
+use crate::program::keeps;
+use crate::strict::strict_bound;
+use crate::walk::Walk;
+use algebra::Basic;
+use core_program::CoreMethod;
+use effects::Assigned;
+use paths::MethodId;
+use rules::{OverridingMethods, bound_of};
+use std::alloc::AllocError as NoMemory;
+
+/// Which bounds methods have to keep: those that they declare, or those that they have where each counts as `atomic`.
+#[derive(Clone, Copy)]
+pub enum Bounds {
+    Declared,
+    Strict,
+}
+
+/// The rank of a method that has none yet.
+const OPEN: u64 = u64::MAX;
+
+/// A rank that is given, and the level to which methods of that rank and greater ones are lowered.
+#[derive(Clone, Copy)]
+struct Round {
+    number: u64,
+    level: Basic,
+}
+
+/// The greatest basic that a method may have without being told.
+fn limit_for<A: Assigned>(
+    walk: &Walk<'_, A>,
+    bounds: Bounds,
+    id: MethodId,
+    method: &CoreMethod,
+) -> Basic
+    ensures { result ≡ limit_for bounds (program_of walk.now.program.now) (A.Assigned.assigned walk.now.assigned.now) id (method_of method.now) }
+{
+    match bounds {
+        Bounds::Declared => told_limit(walk, id, method),
+        Bounds::Strict => strict_bound(walk.program, id, method),
+    }
+}
+
+/// The same, by the bounds that methods declare.
+fn told_limit<A: Assigned>(walk: &Walk<'_, A>, id: MethodId, method: &CoreMethod) -> Basic
+    ensures { result ≡ told_limit (A.Assigned.assigned walk.now.assigned.now) id (method_of method.now) }
+{
+    if keeps(walk, id, method) {
+        Basic::Atomic
+    } else {
+        bound_of(method.annotated)
+    }
+}
+
+/// A method before ranks are given: where it is more than it may be it has none, and the lead of what it comes to in the end.
+fn first_ground<A: Assigned>(
+    walk: &Walk<'_, A>,
+    over: &OverridingMethods,
+    bounds: Bounds,
+    id: MethodId,
+    method: &CoreMethod,
+) -> Result<Ground, NoMemory>
+    ensures { IfOk result (λ first. first ≡ first_ground (program_of walk.now.program.now) (rel_of walk.now.sets.now) (A.Assigned.assigned walk.now.assigned.now) (row_at over.now) bounds id (method_of method.now)) }
+{
+    let limit = limit_for(walk, bounds, id, method);
+    if walk
+        .assigned
+        .at(id, method.requires_.as_slice())
+        .below(limit)
+    {
+        return Ok(Ground {
+            rank: 0,
+            level: None,
+            lead: None,
+        });
+    }
+    let why = why_more(walk, over.of(id), id, method, limit)?;
+    Ok(Ground {
+        rank: OPEN,
+        level: None,
+        lead: reason_lead(walk, &why)?,
+    })
+}
+
+/// All methods before ranks are given.
+fn first_grounds<A: Assigned>(
+    walk: &Walk<'_, A>,
+    over: &OverridingMethods,
+    bounds: Bounds,
+) -> Result<Vec<Ground>, NoMemory>
+    requires { length (program_of walk.now.program.now).methods ≤ 2 ^ 32 }
+    ensures { IfOk result (λ grounds. grounds.items ≡ first_grounds (program_of walk.now.program.now) (rel_of walk.now.sets.now) (A.Assigned.assigned walk.now.assigned.now) (row_at over.now) bounds) }
+{
+    let mut grounds = Vec::new(walk.alloc);
+    for (m, method) in walk.program.methods().iter().enumerate() {
+        grounds.push(first_ground(walk, over, bounds, MethodId(m as u32), method)?)?;
+    }
+    Ok(grounds)
+}
+
+/// Whether a method has no rank, and its explanation leads nowhere or to a method of smaller rank than this.
+fn may_rank(grounds: &[Ground], place: usize, round: u64) -> bool
+    requires { place < length grounds.now }
+    ensures { result ≡ may_rank grounds.now round (slice_get grounds.now place) }
+{
+    let ground = &grounds[place];
+    ground.rank == OPEN && leads_below(grounds, round, &ground.lead)
+}
+
+/// Gives this rank to a method that has none, where its explanation leads nowhere or to a method of smaller rank.
+fn rank_led(grounds: &mut Vec<Ground>, place: usize, round: u64) -> bool
+    requires place { place < length grounds.old.items }
+    requires round { round < open_rank }
+    ensures length { length grounds.new.items ≡ length grounds.old.items }
+    ensures ranked { (bounds : Bounds) (P : Program) (rel : ℕ → List PathData) (A : Assignment) (overs : ℕ → List ℕ) → AreRanked bounds P rel A overs grounds.old.items (round + 1) → AreRanked bounds P rel A overs grounds.new.items (round + 1) }
+    ensures same { result ≡ false → grounds.new.items ≡ grounds.old.items }
+{
+    if !may_rank(grounds.as_slice(), place, round) {
+        return false;
+    }
+    grounds[place].rank = round;
+    true
+}
+
+/// Gives this rank to all such methods.
+fn rank_all_led(grounds: &mut Vec<Ground>, round: u64) -> bool
+    requires { round < open_rank }
+    ensures length { length grounds.new.items ≡ length grounds.old.items }
+    ensures ranked { (bounds : Bounds) (P : Program) (rel : ℕ → List PathData) (A : Assignment) (overs : ℕ → List ℕ) → AreRanked bounds P rel A overs grounds.old.items (round + 1) → AreRanked bounds P rel A overs grounds.new.items (round + 1) }
+    ensures same { result ≡ false → grounds.new.items ≡ grounds.old.items }
+{
+    let mut any = false;
+    for place in 0..grounds.len() {
+        any |= rank_led(grounds, place, round);
+    }
+    any
+}
+
+/// The ground of a method with a reason by what is known before a rank, where there is one, and it leads to a smaller rank.
+fn ground_by<A: Assigned>(
+    walk: &Walk<'_, A>,
+    over: &OverridingMethods,
+    grounds: &[Ground],
+    round: &Round,
+    id: MethodId,
+    method: &CoreMethod,
+) -> Result<Option<Ground>, NoMemory>
+    ensures { IfOk result (λ found. found ≡ ground_by (program_of walk.now.program.now) (rel_of walk.now.sets.now) (A.Assigned.assigned walk.now.assigned.now) (row_at over.now) grounds.now round.now.level round.now.number id (method_of method.now)) }
+{
+    let level = round.level;
+    let number = round.number;
+    let known = Lowered {
+        assigned: walk.assigned,
+        grounds,
+        from: number,
+        level,
+    };
+    let why = why_known(walk, &known, over, id, method)?;
+    let lead = reason_lead(walk, &why)?;
+    if !is_reason(&why) || !leads_below(grounds, number, &lead) {
+        return Ok(None);
+    }
+    Ok(Some(Ground {
+        rank: number,
+        level: Some(level),
+        lead,
+    }))
+}
+
+/// Gives this rank to a method that has none, where there is such a ground.
+fn rank_known<A: Assigned>(
+    walk: &Walk<'_, A>,
+    over: &OverridingMethods,
+    grounds: &mut Vec<Ground>,
+    round: &Round,
+    id: MethodId,
+    method: &CoreMethod,
+) -> Result<bool, NoMemory>
+    requires place { id < length grounds.old.items }
+    requires round { round.now.number < open_rank }
+    requires level { AtMost Atomic round.now.level }
+    ensures length { length grounds.new.items ≡ length grounds.old.items }
+    ensures ranked { OnOk result ((bounds : Bounds) → slice_get (program_of walk.now.program.now).methods id ≡ Some (method_of method.now) →
+        AreRanked bounds (program_of walk.now.program.now) (rel_of walk.now.sets.now) (A.Assigned.assigned walk.now.assigned.now) (row_at over.now) grounds.old.items (round.now.number + 1) →
+        AreRanked bounds (program_of walk.now.program.now) (rel_of walk.now.sets.now) (A.Assigned.assigned walk.now.assigned.now) (row_at over.now) grounds.new.items (round.now.number + 1)) }
+    ensures same { IfOk result (λ any. any ≡ false → grounds.new.items ≡ grounds.old.items) }
+    ensures stuck { IfOk result (λ any. any ≡ false → is_stuck_at (program_of walk.now.program.now) (rel_of walk.now.sets.now) (A.Assigned.assigned walk.now.assigned.now) (row_at over.now)
+        grounds.old.items round.now.level round.now.number id (method_of method.now) ≡ true) }
+{
+    if rank_at(grounds.as_slice(), id) != OPEN {
+        return Ok(false);
+    }
+    match ground_by(walk, over, grounds.as_slice(), round, id, method)? {
+        Some(ground) => {
+            grounds[id.0 as usize] = ground;
+            Ok(true)
+        }
+        None => Ok(false),
+    }
+}
+
+/// Gives this rank to all methods that have none and for which there is such a ground.
+fn rank_all_known<A: Assigned>(
+    walk: &Walk<'_, A>,
+    over: &OverridingMethods,
+    grounds: &mut Vec<Ground>,
+    round: &Round,
+) -> Result<bool, NoMemory>
+    requires few { length (program_of walk.now.program.now).methods ≤ 2 ^ 32 }
+    requires each { length grounds.old.items ≡ length (program_of walk.now.program.now).methods }
+    requires round { round.now.number < open_rank }
+    requires level { AtMost Atomic round.now.level }
+    ensures length { length grounds.new.items ≡ length grounds.old.items }
+    ensures ranked { OnOk result ((bounds : Bounds) →
+        AreRanked bounds (program_of walk.now.program.now) (rel_of walk.now.sets.now) (A.Assigned.assigned walk.now.assigned.now) (row_at over.now) grounds.old.items (round.now.number + 1) →
+        AreRanked bounds (program_of walk.now.program.now) (rel_of walk.now.sets.now) (A.Assigned.assigned walk.now.assigned.now) (row_at over.now) grounds.new.items (round.now.number + 1)) }
+    ensures same { IfOk result (λ any. any ≡ false → grounds.new.items ≡ grounds.old.items) }
+    ensures stuck { IfOk result (λ any. any ≡ false → AreStuck (program_of walk.now.program.now) (rel_of walk.now.sets.now) (A.Assigned.assigned walk.now.assigned.now) (row_at over.now)
+        grounds.new.items round.now.level round.now.number) }
+{
+    let mut any = false;
+    for (m, method) in walk.program.methods().iter().enumerate() {
+        any |= rank_known(walk, over, grounds, round, MethodId(m as u32), method)?;
+    }
+    Ok(any)
+}
+
+/// Gives this rank to methods that have none: to those whose explanation leads nowhere or to a smaller rank; where there is none, to those
+/// that are errors by what is known before it; and where there is none of these either, to those that are compound by it.
+fn rank_round<A: Assigned>(
+    walk: &Walk<'_, A>,
+    over: &OverridingMethods,
+    grounds: &mut Vec<Ground>,
+    number: u64,
+) -> Result<bool, NoMemory>
+    requires few { length (program_of walk.now.program.now).methods ≤ 2 ^ 32 }
+    requires each { length grounds.old.items ≡ length (program_of walk.now.program.now).methods }
+    requires round { number < open_rank }
+    ensures length { length grounds.new.items ≡ length grounds.old.items }
+    ensures ranked { OnOk result ((bounds : Bounds) →
+        AreRanked bounds (program_of walk.now.program.now) (rel_of walk.now.sets.now) (A.Assigned.assigned walk.now.assigned.now) (row_at over.now) grounds.old.items (number + 1) →
+        AreRanked bounds (program_of walk.now.program.now) (rel_of walk.now.sets.now) (A.Assigned.assigned walk.now.assigned.now) (row_at over.now) grounds.new.items (number + 1)) }
+    ensures same { IfOk result (λ any. any ≡ false → grounds.new.items ≡ grounds.old.items) }
+    ensures stuck { IfOk result (λ any. any ≡ false → AreStuck (program_of walk.now.program.now) (rel_of walk.now.sets.now) (A.Assigned.assigned walk.now.assigned.now) (row_at over.now)
+        grounds.new.items Atomic number) }
+{
+    if rank_all_led(grounds, number) {
+        return Ok(true);
+    }
+    let errors = Round {
+        number,
+        level: Basic::Cmpd,
+    };
+    if rank_all_known(walk, over, grounds, &errors)? {
+        return Ok(true);
+    }
+    let compounds = Round {
+        number,
+        level: Basic::Atomic,
+    };
+    rank_all_known(walk, over, grounds, &compounds)
+}
+
+/// On what the explanation of each method rests. Each round ranks a method, so there are never as many rounds as are allowed.
+pub fn find_grounds<A: Assigned>(
+    walk: &Walk<'_, A>,
+    over: &OverridingMethods,
+    bounds: Bounds,
+) -> Result<Vec<Ground>, NoMemory>
+    requires { length (program_of walk.now.program.now).methods ≤ 2 ^ 32 }
+    ensures { IfOk result (λ grounds. AreAllRanked bounds (program_of walk.now.program.now) (rel_of walk.now.sets.now) (A.Assigned.assigned walk.now.assigned.now) (row_at over.now) grounds.items) }
+{
+    let mut grounds = first_grounds(walk, over, bounds)?;
+    for round in 1..OPEN {
+        if !rank_round(walk, over, &mut grounds, round)? {
+            return Ok(grounds);
+        }
+    }
+    Err(NoMemory)
+}
