@@ -20,7 +20,7 @@ use Rattle.rules.specs.Effect.{Assignment}
 use Rattle.syntax.specs.Trees.{MemberTree, MethodM, ProgramTree}
 use Rattle.typing.specs.Programs.{core_of}
 use Rattle.explain_commands.specs.Answers.{pages_of}
-use Rattle.explain_commands.specs.Explained.{places_at}
+use Rattle.explain_commands.specs.Explained.{places_at, slots_at}
 use Rattle.explain_commands.specs.Placed.{IsNamedBy, error, repeated, call, first, second, StandsInPlace}
 
 module _ (P : Program) (rel : ℕ → List PathData) (A : Assignment) (overs : List ℕ) (method : Method) where
@@ -63,4 +63,5 @@ placed name file tree P core k method is v there =
       its = its;
       told = told;
       offset = ap (λ (m : Option MemberTree). unwrap_or (slice_get (places_at m) v.node) 0) member ∙ ap (λ (o : Option ℕ). unwrap_or o 0) told.place;
+      slots = ap slots_at member;
     }

@@ -6,6 +6,7 @@ use Rattle.explain.specs.Visits.{Visit}
 use Rattle.explain.specs.Whys.{WhyData, Wrong, Looped, Compound, Two}
 use Rattle.explain_text.specs.Pages.{PageData, node_offset}
 use Rattle.places.specs.Making.{HasTree, IsToldAt}
+use Rattle.places.specs.Slots.{slot_names}
 use Rattle.places.specs.Sources.{source_offset}
 use Rattle.syntax.specs.Trees.{ProgramTree}
 
@@ -18,8 +19,10 @@ pub data IsNamedBy : WhyData → Visit → Type 0 where
   second : (v w : Visit) → IsNamedBy (Two v w) w
 
 -- the method was made of the method of the tree with the same number; the part was made, by elaboration's own rules, of something in that
--- one; and the lines of the part's node stand where that stands
+-- one; the lines of the part's node stand where that stands; and they are written with that method's names of slots, which are those of the
+-- variables that are in scope where the part was made
 pub record StandsInPlace (tree : ProgramTree) (page : PageData) (k : ℕ) (method : Method) (v : Visit) : Type 0 where
   pub its : HasTree (table_of tree) tree k method
   pub told : IsToldAt (table_of tree) method its.m v
   pub offset : node_offset page v.node ≡ source_offset told.source
+  pub slots : page.slots ≡ slot_names its.m

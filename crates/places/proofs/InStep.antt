@@ -25,16 +25,16 @@ use Rattle.places.specs.Sources.{Source, FromExpr, expr_sources, exprs_sources}
 use Rattle.places.specs.Making.{expr, AreMade, end, more}
 use Rattle.places.proofs.AtNumbers.{made_both}
 
-module _ (t : TableData) (class : ℕ) (returns : Option CoreType) (first : ℕ) (scope : Scope) where
+module _ (t : TableData) (class : ℕ) (returns : Option CoreType) (first : ℕ) (Within : Scope → Type 0) (scope : Scope) (within : Within scope) where
   abbrev Made : List Part → List Source → Type 0
-  Made xs us = AreMade t class returns first xs us
+  Made xs us = AreMade t class returns first Within xs us
 
   -- a node above nodes that are in step
   over : (u : ExprTree) (make d : TypedData) (xs : List Part) (us : List Source) → make ≡ d → expr_parts make.node ≡ (ExprP make.node ∷ xs)
       → elaborated t class scope u ≡ Some d → Made xs us → Made (expr_parts d.node) (FromExpr u ∷ us)
   over u make d xs us same parts h own =
       subst (λ z. Made (expr_parts z.node) (FromExpr u ∷ us)) same
-      (subst (λ zs. Made zs (FromExpr u ∷ us)) (sym parts) (more (ExprP make.node) (FromExpr u) xs us (expr scope u make (h ∙ ap Some (sym same))) own))
+      (subst (λ zs. Made zs (FromExpr u ∷ us)) (sym parts) (more (ExprP make.node) (FromExpr u) xs us (expr scope u make within (h ∙ ap Some (sym same))) own))
 
   operator_made : (u : ExprTree) (op : CoreOp) (at : ℕ) (p : TypedData × TypedData) (d : TypedData) (us : List Source) → operator_rule t op at p ≡ Ok d
       → elaborated t class scope u ≡ Some d → Made (expr_parts p.0.node ++ expr_parts p.1.node) us → Made (expr_parts d.node) (FromExpr u ∷ us)
@@ -111,7 +111,7 @@ module _ (t : TableData) (class : ℕ) (returns : Option CoreType) (first : ℕ)
         let g = given_of (binary_rule t op at) (both (elaborated t class scope a) (elaborated t class scope b)) d h in
         let p = both_of (elaborated t class scope a) (elaborated t class scope b) g.0 g.1 in
         binary_made (tree.BinaryE op a b at) op at g.0 d (expr_sources a ++ expr_sources b) g.2 h
-        (made_both t class returns first (expr_made a g.0.0 p.0) (expr_made b g.0.1 p.1))
+        (made_both t class returns first Within (expr_made a g.0.0 p.0) (expr_made b g.0.1 p.1))
     expr_made (tree.GetE e n) d h =
         let g = given_of (get_rule t n) (elaborated t class scope e) d h in
         let make : ℕ × FieldData → TypedData = λ f. typed (ValueT f.1.ty) (core.GetE g.0.node f.0) in
@@ -121,7 +121,7 @@ module _ (t : TableData) (class : ℕ) (returns : Option CoreType) (first : ℕ)
         let g = given_of (call_rule t n) (both (elaborated t class scope e) (elaborated_each t class scope args)) d h in
         let p = both_of (elaborated t class scope e) (elaborated_each t class scope args) g.0 g.1 in
         call_made (tree.CallE e n args) n g.0 d (expr_sources e ++ exprs_sources args) g.2 h
-        (made_both t class returns first (expr_made e g.0.0 p.0) (each_made args g.0.1 p.1))
+        (made_both t class returns first Within (expr_made e g.0.0 p.0) (each_made args g.0.1 p.1))
     expr_made (tree.NewE n args at) d h =
         let g = given_of (new_rule t n) (elaborated_each t class scope args) d h in
         new_made (tree.NewE n args at) n g.0 d (exprs_sources args) g.2 h (each_made args g.0 g.1)
@@ -132,4 +132,4 @@ module _ (t : TableData) (class : ℕ) (returns : Option CoreType) (first : ℕ)
         let g = map_of with_argument (both (elaborated t class scope e) (elaborated_each t class scope es)) l h in
         let p = both_of (elaborated t class scope e) (elaborated_each t class scope es) g.0 g.1 in
         subst (λ z. Made (exprs_parts z.nodes) (expr_sources e ++ exprs_sources es)) g.2
-        (made_both t class returns first (expr_made e g.0.0 p.0) (each_made es g.0.1 p.1))
+        (made_both t class returns first Within (expr_made e g.0.0 p.0) (each_made es g.0.1 p.1))

@@ -2,6 +2,7 @@
 pub mod LineFeeds
 pub mod Putting
 -- Nodes in step with what they were made of.
+pub mod SlotsNamed
 pub mod InStep
 pub mod InStepStmts
 pub mod AtNumbers
