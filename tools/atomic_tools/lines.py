@@ -2,7 +2,7 @@
 by its code (docs/why.md, "Codes"); lines of sources that are no program, and those of `--all`, have none.
 
     facts(text)            each such line as a Fact
-    explained(facts)       the facts by methods: the line that names a method, and the notes on it
+    explained(facts)       the facts by methods: the line that names a method, and the notes on it; a warning by itself
     by_parts(facts)        the facts of `atomic_why --all`, by method and part
 """
 from __future__ import annotations
@@ -67,10 +67,10 @@ def facts(text: str, name: Optional[str] = None) -> list[Fact]:
 
 
 def explained(given: Iterable[Fact]) -> list[list[Fact]]:
-    """The facts by methods: the line that names the method, and the notes on it."""
+    """The facts by methods: the line that names the method, and the notes on it. A warning stands by itself."""
     groups: list[list[Fact]] = []
     for fact in given:
-        if fact.word == "error" or fact.code in HEADS or not groups:
+        if fact.word in ("error", "warning") or fact.code in HEADS or not groups:
             groups.append([])
         groups[-1].append(fact)
     return groups

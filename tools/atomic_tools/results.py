@@ -81,6 +81,13 @@ RULES = [
         "Only the first fault of a source is told. Mend it, and check again: docs/repairs.md has a row for each.",
     ),
     Rule(
+        "unguarded-field",
+        "a field that is written, and that nothing guards",
+        "Write `guarded_by LOCK` behind the field, and hold that lock at each access. Where the field is written once, "
+        "in the constructor, make it `final`.",
+        "warning",
+    ),
+    Rule(
         "unicode-escape",
         "a unicode escape, which Java reads within comments, too",
         "Write the character itself, or put a second backslash before the first. In a comment, `\\u002a/` ends the "
@@ -221,7 +228,7 @@ def results_of_input() -> list[Result]:
 
 
 def results_of(groups: Iterable[list[Fact]], texts: Texts) -> list[Result]:
-    return [result_of(group, texts) for group in groups if group[0].word == "error"]
+    return [result_of(group, texts) for group in groups if group[0].word in ("error", "warning")]
 
 
 def warning_of(fact: Fact, texts: Texts) -> Result:

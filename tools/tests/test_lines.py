@@ -41,6 +41,10 @@ class Lines(unittest.TestCase):
     def test_notes_stand_with_their_method(self) -> None:
         self.assertEqual([2, 1], [len(group) for group in explained(facts(TEXT))])
 
+    def test_a_warning_stands_by_itself(self) -> None:
+        text = TEXT + "f.java:5:9: warning: A.low is written, and nothing guards it [unguarded-field]\n"
+        self.assertEqual([2, 1, 1], [len(group) for group in explained(facts(text))])
+
     def test_parts_have_their_numbers(self) -> None:
         parts = by_parts(facts("f.java:1:2: mover: A.b 0\nf.java:1:9: atomic: A.b 7\n"))
         self.assertEqual(

@@ -56,6 +56,13 @@ class Reports(InFolder):
             result = results(self.run_tool("atomic-sarif", "-", given=given).text)[0]
             self.assertEqual((rule, "x: y"), (result["ruleId"], result["message"]["text"]))
 
+    def test_a_warning_is_a_result_that_refuses_nothing(self) -> None:
+        given = b"f.java:1:2: warning: A.low is written, and nothing guards it [unguarded-field]\n"
+        status, text, _ = self.run_tool("atomic-sarif", "-", given=given)
+        result = results(text)[0]
+        self.assertEqual((0, "unguarded-field", "warning"), (status, result["ruleId"], result["level"]))
+        self.assertEqual([], faults(json.loads(text)))
+
     def test_a_fingerprint_stays_while_lines_move(self) -> None:
         marks = []
         for before in (b"", b"\n\n// moved\n"):

@@ -86,7 +86,7 @@ static ASKED: [(&[&str], u8, &str); 11] = [
 ];
 
 /// The names of files, each with the source in it.
-static FILES: [(&str, &str); 4] = [
+static FILES: [(&str, &str); 5] = [
     ("a", LOCKED),
     (
         "b",
@@ -97,11 +97,16 @@ static FILES: [(&str, &str); 4] = [
         "e",
         "class Counter { int n; void inc() { this.n = this.n + 1; } } class Main { void main() { System.out.println(1); System.out.println(2); } }",
     ),
+    (
+        "f",
+        "class Counter { int n; void set() { this.n = 1; } int get() { return this.n; } void again() { this.n = 2; } } class Main { void main() { } }",
+    ),
 ];
 
 /// Words that name some of these files, and one that isn't there, each with its status and text: the worst status, and all lines in the order
-/// of the words. Of the last file one method, which promises nothing, isn't atomic, and neither is `main`.
-static SEVERAL: [(&[&str], u8, &str); 7] = [
+/// of the words. Of `e` one method, which promises nothing, isn't atomic, and neither is `main`. Of `f` each is, and a field that nothing guards
+/// is written.
+static SEVERAL: [(&[&str], u8, &str); 8] = [
     (&["a", "a", "a"], 0, ""),
     (
         &["b", "a"],
@@ -122,7 +127,12 @@ static SEVERAL: [(&[&str], u8, &str); 7] = [
     (
         &["--strict", "a", "e"],
         2,
-        "e:1:29: error: Counter.inc counts as atomic, found cmpd [two-steps]\ne:1:51: note: atomic step: reads this.n, which nothing guards [first-step]\ne:1:37: note: a second one: writes this.n, which nothing guards [second-step]\ne:1:37: note: between the two another thread may come in [gap-between]\ne:1:51: note: no lock helps this step: nothing guards the field [help-unguarded]\ne:1:37: note: no lock helps this step: nothing guards the field [help-unguarded]\n",
+        "e:1:29: error: Counter.inc counts as atomic, found cmpd [two-steps]\ne:1:51: note: atomic step: reads this.n, which nothing guards [first-step]\ne:1:37: note: a second one: writes this.n, which nothing guards [second-step]\ne:1:37: note: between the two another thread may come in [gap-between]\ne:1:51: note: no lock helps this step: nothing guards the field [help-unguarded]\ne:1:37: note: no lock helps this step: nothing guards the field [help-unguarded]\ne:1:37: warning: Counter.n is written, and nothing guards it [unguarded-field]\n",
+    ),
+    (
+        &["--strict", "f"],
+        0,
+        "f:1:37: warning: Counter.n is written, and nothing guards it [unguarded-field]\n",
     ),
     (
         &["--all", "a", "c"],

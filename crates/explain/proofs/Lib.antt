@@ -25,3 +25,5 @@ pub mod Strictly
 -- Lemmas on ranks, by which explanations lead in no circle: one more is given (Ranked), before they are given and in a round (FirstRanks).
 pub mod Ranked
 pub mod FirstRanks
+-- Writes of fields that nothing guards.
+pub mod Writing

@@ -10,8 +10,8 @@ pub mod Helping
 -- explanations as plain data (Whys), why a method is more than it may be (Explaining) and
 -- what that means (Meanings), names of locks (Names), which lock a call takes
 -- (Takings), what a step does and which lock would help (Deeds), which lock would help around a whole method (Around), what is wrong
--- with an error (Causes), what a whole program's explanations are (Programs), and what they are where all methods count as
--- `atomic` (Strict). Views and Walked have what the walk in code finds.
+-- with an error (Causes), what a whole program's explanations are (Programs), what they are where all methods count as
+-- `atomic` (Strict), and which fields are written though nothing guards them (Unguarded). Views and Walked have what the walk in code finds.
 pub mod Shown
 pub mod Basics
 pub mod Whys
@@ -29,3 +29,4 @@ pub mod Programs
 pub mod Strict
 pub mod Leads
 pub mod Ranking
+pub mod Unguarded

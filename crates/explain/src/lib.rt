@@ -17,6 +17,7 @@ mod ranking;
 mod step_and_place_laws;
 mod strict;
 mod takings;
+mod unguarded;
 mod walk;
 mod wrapping;
 
@@ -34,5 +35,6 @@ pub use program::{Explained, explanations};
 pub use ranking::{Bounds, find_grounds};
 pub use step_and_place_laws::{error_laws, help_laws, place_laws, step_laws};
 pub use strict::{keep_strictly, strict_explanations};
+pub use unguarded::{BareWrite, bare_writes};
 pub use walk::Walk;
 pub use wrapping::around;

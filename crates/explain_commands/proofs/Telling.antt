@@ -1,5 +1,5 @@
 -- The sentence, from what the call answers.
-use Rattle.std.proofs.Common.{◌≡◌, ◌≢◌, ◌↔◌, ℕ, ◌≤◌, List, [], ◌∷◌, Some, length, refl, subst, ap, ◌∙◌, arith, inl, inr, ◌⊎◌}
+use Rattle.std.proofs.Common.{◌≡◌, ◌≢◌, ◌↔◌, ℕ, ◌≤◌, List, [], ◌∷◌, ◌++◌, Some, length, refl, sym, subst, ap, ◌∙◌, arith, append-nil, inl, inr, ◌⊎◌}
 use Rattle.std.specs.Io.KnownBytes.{Appends}
 use Rattle.lexer.specs.Limits.{longest_source}
 use Rattle.core_program.specs.Core.{Program}
@@ -28,6 +28,7 @@ use Rattle.explain_commands.specs.Orders.{IsAcceptedFor, IsProgramVerdict, broke
 use Rattle.explain_commands.specs.Explained.{AreTexts, none, more}
 use Rattle.explain_commands.specs.Sentence.{AsksToExplain, TellsBroken, ExplainsBroken}
 use Rattle.explain_commands.proofs.Placing.{placed}
+use Rattle.explain_commands.specs.Warned.{warnings_text}
 use Rattle.explain_commands.specs.Written.{IsAskedFile, BelongsToFile, too_large, ended}
 use Rattle.explain_commands.proofs.Bounds.{above_for, causes_for, circle_for, exactly_for, grounded_for, named_for, nothing_for, reasons_for}
 
@@ -57,9 +58,10 @@ no_lines P rel A pages overs _ _ e none = refl
 no_lines P rel A pages overs _ _ e (more x xs text rest one others) = absurd cc
 
 module _ (call : Call) (name file : List ℕ) where
-  tells : (order : Order) (tree : ProgramTree) (P : Program) (ending : Ending) (text : List ℕ) → core_of tree ≡ Some P → (j : IsJudgedProgram order P (pages_of name file tree) ending text)
-      → Explains order P (rel_of j.sets) j.assignment (pages_of name file tree) text → call.status ≡ code_of ending → Appends call.written_before call.written_after text → TellsBroken order call name file tree P
-  tells order tree P ending text core j explains status written =
+  tells : (order : Order) (tree : ProgramTree) (P : Program) (ending : Ending) (whole text : List ℕ) → core_of tree ≡ Some P → (j : IsJudgedProgram order P (pages_of name file tree) ending whole)
+      → Explains order P (rel_of j.sets) j.assignment (pages_of name file tree) text → call.status ≡ code_of ending
+      → Appends call.written_before call.written_after (text ++ warnings_text order P (pages_of name file tree)) → TellsBroken order call name file tree P
+  tells order tree P ending whole text core j explains status written =
       let overs = explains.overs in
       let grounds = explains.grounds in
       let founded = grounded_for P j.sets j.assignment overs j.typed j.least explains.are_overs order grounds explains.are_grounds in
@@ -99,19 +101,20 @@ module _ (call : Call) (name file : List ℕ) where
       subst (λ u. TellsBroken order call name file u Q) (same_tree file tree its is.has_core.program are.has_core.program)
       (subst (TellsBroken order call name file tree) (same_core file tree its P Q is.has_core are.has_core) t)
 
-  -- the text of what is told
+  -- the text of what is told: the lines of the explanations, and then the warnings
   explains_of : (order : Order) → AsksToExplain order → (P : Program) (rel : ℕ → List PathData) (A : Assignment) (pages : ℕ → PageData) (text : List ℕ) → IsText order P rel A pages text
-      → Explains order P rel A pages text
-  explains_of Why asks P rel A pages text is = is
+      → (lines : List ℕ) × Explains order P rel A pages lines × (text ≡ lines ++ warnings_text order P pages)
+  explains_of Why asks P rel A pages text is = (text, is, sym (append-nil text))
   explains_of All asks P rel A pages text is = absurd asks
-  explains_of Strict asks P rel A pages text is = is
+  explains_of Strict asks P rel A pages text is = (is.lines, is.explains, is.whole)
 
   by_answer : (order : Order) → AsksToExplain order → (ending : Ending) (text : List ℕ) → ExplainAnswer order name file ending text → call.status ≡ code_of ending
       → Appends call.written_before call.written_after text → (tree : ProgramTree) (P : Program) → IsWellFormedSource file tree P → TellsBroken order call name file tree P
   by_answer order asks _ _ (no_source {ending = ending} {line = line} faulty) status written tree P is = absurd (no_source_is_none file ending _ faulty.refused tree P is)
   by_answer order asks _ _ (judged {ending = ending} {text = text} its Q are j) status written tree P is =
       let explains = explains_of order asks Q (rel_of j.sets) j.assignment (pages_of name file its) text j.text_is in
-      same_source order its tree Q P are is (tells order its Q ending text are.has_core.core.core j explains status written)
+      same_source order its tree Q P are is
+      (tells order its Q ending text explains.0 are.has_core.core.core j explains.1 status (subst (Appends call.written_before call.written_after) explains.2 written))
 
   by_belongs : (order : Order) → AsksToExplain order → (status : ℕ) (text : List ℕ) → BelongsToFile order name file status text → call.status ≡ status → Appends call.written_before call.written_after text
       → length file ≤ longest_source → (tree : ProgramTree) (P : Program) → IsWellFormedSource file tree P → TellsBroken order call name file tree P

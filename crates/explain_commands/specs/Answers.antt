@@ -1,5 +1,5 @@
 -- What is answered to the bytes of a file.
-use Rattle.std.specs.Prelude.{◌≡◌, ℕ, List, map}
+use Rattle.std.specs.Prelude.{◌≡◌, ℕ, List, ◌++◌, map}
 use Rattle.classes.specs.Table.{table_of}
 use Rattle.core_program.specs.Core.{Program}
 use Rattle.core_program.specs.Typed.{IsTyped}
@@ -24,6 +24,7 @@ use Rattle.explain_commands.specs.Explained.{page_of, AreTexts}
 use Rattle.explain_commands.specs.Faults.{IsSourceFaultLine}
 use Rattle.explain_commands.specs.Listed.{all_lines}
 use Rattle.explain_commands.specs.Orders.{IsProgramVerdict, bounds_for, broken_for, explanations_for}
+use Rattle.explain_commands.specs.Warned.{warnings_text}
 
 -- the text has the lines of the explanations that are asked of a program
 pub record Explains (order : Order) (P : Program) (rel : ℕ → List PathData) (A : Assignment) (pages : ℕ → PageData) (text : List ℕ) : Type 0 where
@@ -35,11 +36,17 @@ pub record Explains (order : Order) (P : Program) (rel : ℕ → List PathData) 
   pub are_grounds : AreAllRanked (bounds_for order) P rel A (row_at overs) grounds
   pub texts : AreTexts P rel A pages (row_at overs) (arranged P rel (explanations_for order P rel A (row_at overs) grounds)) text
 
+-- the text has these lines, and then a warning for each field that nothing guards and that is written
+pub record ExplainsAndWarns (P : Program) (rel : ℕ → List PathData) (A : Assignment) (pages : ℕ → PageData) (text : List ℕ) : Type 0 where
+  pub lines : List ℕ
+  pub explains : Explains Strict P rel A pages lines
+  pub whole : text ≡ lines ++ warnings_text Strict P pages
+
 -- the text that belongs to what is asked for
 abbrev pub IsText : Order → Program → (ℕ → List PathData) → Assignment → (ℕ → PageData) → List ℕ → Type 0
 IsText Why P rel A pages text = Explains Why P rel A pages text
 IsText All P rel A pages text = text ≡ all_lines P rel A pages
-IsText Strict P rel A pages text = Explains Strict P rel A pages text
+IsText Strict P rel A pages text = ExplainsAndWarns P rel A pages text
 
 -- what the lines of each method of a source are written with
 abbrev pub pages_of : (name file : List ℕ) → ProgramTree → ℕ → PageData

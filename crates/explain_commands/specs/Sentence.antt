@@ -1,7 +1,7 @@
 -- The sentence that the program is for: each explanation is told or counted, of exactly the methods whose bound the least closed
 -- assignment breaks, and status 2 comes exactly where there is one; which is exactly where no assignment of atomicities is admissible. By
 -- `--strict` the same, of the bounds that methods have where each counts as `atomic` but those that threads begin with.
-use Rattle.std.specs.Prelude.{◌≡◌, ◌≢◌, ◌↔◌, ℕ, ◌≤◌, false, List, [], ◌∷◌, Contains, Some, length, slice_get, ◌⊎◌}
+use Rattle.std.specs.Prelude.{◌≡◌, ◌≢◌, ◌↔◌, ℕ, ◌≤◌, false, List, [], ◌∷◌, ◌++◌, Contains, Some, length, slice_get, ◌⊎◌}
 use Rattle.std.specs.Io.KnownBytes.{Appends}
 use Rattle.lexer.specs.Limits.{longest_source}
 use Rattle.algebra.specs.Basics.{below_of}
@@ -10,7 +10,7 @@ use Rattle.explain.specs.declared.names.Alias.{Alias}
 use Rattle.explain.specs.Causes.{cause_of}
 use Rattle.explain.specs.declared.grounds.Ground.{Ground}
 use Rattle.explain.specs.Grounds.{level_at}
-use Rattle.explain.specs.Leads.{IsChain, IsReasonBy}
+use Rattle.explain.specs.Leads.{IsReasonChain, IsReasonBy}
 use Rattle.explain.specs.Whys.{ExplainedData, Wrong}
 use Rattle.edge.specs.Calls.{Call, HasNoFault}
 use Rattle.reasons.specs.Causing.{IsCause}
@@ -30,6 +30,7 @@ use Rattle.explain_commands.specs.Broken.{refused_in}
 use Rattle.explain_commands.specs.Explained.{AreTexts}
 use Rattle.explain_commands.specs.Placed.{IsNamedBy, StandsInPlace}
 use Rattle.explain_commands.specs.Orders.{IsAcceptedFor, broken_for, explanations_for}
+use Rattle.explain_commands.specs.Warned.{warnings_text}
 use Rattle.explain_commands.specs.Words.{AsksFor}
 
 -- what the call wrote of the program of a well-formed source
@@ -42,10 +43,10 @@ pub record TellsBroken (order : Order) (call : Call) (name file : List ℕ) (tre
   pub are_overs : AreOverriders P overs
   -- on what the explanation of each method rests: its rank, and the level by which it is told, if it isn't told as it is
   pub grounds : List Ground
-  -- the lines are those of the explanations
+  -- the lines are those of the explanations, and by `--strict` behind them the warnings
   pub text : List ℕ
   pub texts : AreTexts P (rel_of sets) assignment (pages_of name file tree) (row_at overs) (arranged P (rel_of sets) (explanations_for order P (rel_of sets) assignment (row_at overs) grounds)) text
-  pub written : Appends call.written_before call.written_after text
+  pub written : Appends call.written_before call.written_after (text ++ warnings_text order P (pages_of name file tree))
   -- each explanation is told, or counted at one that is told for the same error of a callee
   pub counts : told_or_counted (arranged P (rel_of sets) (explanations_for order P (rel_of sets) assignment (row_at overs) grounds)) ≡ length (explanations_for order P (rel_of sets) assignment (row_at overs) grounds)
   -- those of refused methods are of exactly the methods whose bound the assignment breaks, in source order
@@ -55,14 +56,15 @@ pub record TellsBroken (order : Order) (call : Call) (name file : List ℕ) (tre
   pub reasons : (x : ExplainedData) → Contains (explanations_for order P (rel_of sets) assignment (row_at overs) grounds) x → (method : Method) → slice_get P.methods x.method ≡ Some method
       → IsReasonBy P (rel_of sets) assignment (row_at overs x.method) method (level_at grounds x.method) x.limit x.why
   -- no chain of told methods, each of which is what it is by the next, comes back to where it began
-  pub circle : (x : ExplainedData) → IsChain P (rel_of sets) (explanations_for order P (rel_of sets) assignment (row_at overs) grounds) x x → ⊥
+  pub circle : (x : ExplainedData) → IsReasonChain P (rel_of sets) (explanations_for order P (rel_of sets) assignment (row_at overs) grounds) x x → ⊥
   -- and so has each access or call that lacks a lock: the line tells what lacks there
   pub causes : (x : ExplainedData) → Contains (explanations_for order P (rel_of sets) assignment (row_at overs) grounds) x → (v : Visit) → x.why ≡ Wrong v
       → (aliases : List Alias) → IsCause P (rel_of sets) assignment v.held v.part (cause_of P (rel_of sets) aliases v.held v.part)
-  -- the lines of each part that a reason names stand where that stands of which elaboration made the part
+  -- the lines of each part that a reason names stand where that stands of which elaboration made the part, and name slots as the source
+  -- names the variables in scope there
   pub places : (x : ExplainedData) → Contains (explanations_for order P (rel_of sets) assignment (row_at overs) grounds) x → (method : Method) → slice_get P.methods x.method ≡ Some method → (v : Visit) → IsNamedBy x.why v
       → StandsInPlace tree (pages_of name file tree x.method) x.method method v
-  -- status 2 comes exactly where there is one; else it is 0, and nothing is written
+  -- status 2 comes exactly where there is one; else it is 0, and nothing is explained
   pub refused : (call.status ≡ 2) ↔ (broken_for order P assignment ≢ [])
   pub accepted : (call.status ≡ 0) ↔ (broken_for order P assignment ≡ [])
   pub silent : call.status ≡ 0 → text ≡ []

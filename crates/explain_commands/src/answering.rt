@@ -15,7 +15,7 @@ ghost use Rattle.sources.specs.Programs.{IsProgram};
 ghost use Rattle.sources.specs.Refusals.{IsRightEnd};
 ghost use Rattle.syntax.specs.Views.{member_of, program_tree as tree_of};
 
-use crate::explaining::explained;
+use crate::explaining::{explained, explained_with_warnings};
 use crate::judging::judge;
 use crate::lines::fault_text;
 use crate::listing::listed;
@@ -49,7 +49,7 @@ fn text_for<A: Assigned>(
     match order {
         Order::Why => explained(Order::Why, told, walk),
         Order::All => listed(told, walk),
-        Order::Strict => explained(Order::Strict, told, walk),
+        Order::Strict => explained_with_warnings(told, walk),
     }
 }
 

@@ -3,7 +3,7 @@
 ghost use Rattle.std.specs.Prelude.{◌≡◌, ◌++◌, ◌<◌, ◌≤◌, ◌^◌, ℕ, List, IfOk, OnOk, length, map, slice_get, string_bytes};
 ghost use Rattle.classes.specs.Views.{table_data};
 ghost use Rattle.core_program.specs.Views.{program_of};
-ghost use Rattle.explain_commands.specs.Answers.{Explains};
+ghost use Rattle.explain_commands.specs.Answers.{Explains, ExplainsAndWarns};
 ghost use Rattle.explain_text.specs.Arrangements.{IsArrangedBlock};
 ghost use Rattle.explain_text.specs.ArrangementViews.{arranged_data};
 ghost use Rattle.explain_commands.specs.Orders.{AreExplained, bounds_for, explanations_for};
@@ -14,6 +14,7 @@ ghost use Rattle.rules.specs.Search.{row_at};
 ghost use Rattle.syntax.specs.Views.{member_of};
 
 use crate::told::Told;
+use crate::warning::add_warnings;
 use crate::words::Order;
 use core_program::CoreProgram;
 use effects::Assigned;
@@ -146,4 +147,20 @@ pub(crate) fn explained<A: Assigned>(
     let all = all_for(order, walk, &over)?;
     let arranged = arrange(walk, all)?;
     lines_of(told, walk, &over, arranged.as_slice())
+}
+
+/// The explanations of the methods that break their bounds where each counts as `atomic`, and a warning for each field that nothing guards
+/// and that is written.
+pub(crate) fn explained_with_warnings<A: Assigned>(
+    told: &Told<'_, '_, '_>,
+    walk: &Walk<'_, A>,
+) -> Result<String, NoMemory>
+    requires there { length (program_of walk.now.program.now).methods ≤ length told.now.methods.now.items }
+    requires few { length (program_of walk.now.program.now).methods ≤ 2 ^ 32 }
+    ensures { IfOk result (λ text. ExplainsAndWarns (program_of walk.now.program.now) (rel_of walk.now.sets.now) (A.Assigned.assigned walk.now.assigned.now)
+        (page_of told.now.file.now told.now.index.now (table_data told.now.source.now.table) (map (λ m. member_of m.now) told.now.methods.now.items)) (string_bytes text)) }
+{
+    let mut text = explained(Order::Strict, told, walk)?;
+    add_warnings(told, walk, &mut text)?;
+    Ok(text)
 }

@@ -9,6 +9,7 @@ mod lines;
 mod listing;
 mod program;
 mod told;
+mod warning;
 mod words;
 mod worse;
 

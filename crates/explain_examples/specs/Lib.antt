@@ -6,3 +6,6 @@ pub mod Bodies
 pub mod Page
 pub mod Errors
 pub mod Circles
+-- Writes of fields that nothing guards (Writes), and a scope (Scopes).
+pub mod Writes
+pub mod Scopes

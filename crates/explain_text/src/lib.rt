@@ -10,6 +10,7 @@ mod listing;
 mod more;
 mod page;
 mod steps;
+mod warnings;
 mod words;
 
 pub use arranging::{Arranged, arrange};
@@ -17,3 +18,4 @@ pub use codes::StepKind;
 pub use listing::write_listing;
 pub use more::write_arranged;
 pub use page::Page;
+pub use warnings::write_warning;
