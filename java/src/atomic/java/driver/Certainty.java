@@ -7,13 +7,15 @@ import java.util.LinkedHashMap;
 import java.util.List;
 import java.util.Map;
 import java.util.Set;
+import java.util.function.Predicate;
 import java.util.regex.Matcher;
 import java.util.regex.Pattern;
 import java.util.stream.Collectors;
 
 /**
- * The errors of a run beside those that are left where what may be no step is left out. One that is there too is
- * certain, and explained by steps that are surely there; any other may be a wrong alarm, and that is told.
+ * The errors of a run beside those that are left where what may be no step is left out. One that is there too is explained
+ * by steps that are surely there. It is certain where a guard is missing, and where some method is seen that can tell the
+ * interruption; any other may be a wrong alarm, and that is told.
  */
 final class Certainty {
     /** What stands between a place and an error there. */
@@ -21,14 +23,21 @@ final class Certainty {
     /** What stands behind the place of an error that may be a wrong alarm. */
     static final String DOUBT = ": note: this may be a wrong alarm: without what is approximated in it, or in what it touches,"
         + " it isn't found";
+    /** What stands there where nobody is seen who would tell the difference. */
+    static final String UNSEEN = ": note: this may be a wrong alarm: no method here is seen that could tell that another"
+        + " thread came in between";
     private static final Pattern PLACED = Pattern.compile("(.*?):(\\d+):(\\d+): error: .*");
     private static final String FOUND = ", found ";
+    private static final String UNGUARDED = ", found error";
 
     private final List<String> lines;
     private final Map<String, List<String>> certain;
+    private final Predicate<String> told;
 
-    Certainty(List<String> lines, List<String> certainLines) {
+    /** The errors of both kinds; {@code told} says of the place of a method whether some method can tell an interruption. */
+    Certainty(List<String> lines, List<String> certainLines, Predicate<String> told) {
         this.lines = lines;
+        this.told = told;
         certain = blocks(certainLines);
     }
 
@@ -43,8 +52,11 @@ final class Certainty {
             }
             all.add(block.get(0));
             all.addAll(sure != null ? sure.subList(1, sure.size()) : block.subList(1, block.size()));
+            String place = key.substring(0, key.indexOf(ERROR));
             if (sure == null) {
-                all.add(key.substring(0, key.indexOf(ERROR)) + DOUBT);
+                all.add(place + DOUBT);
+            } else if (!sure.get(0).endsWith(UNGUARDED) && !told.test(place)) {
+                all.add(place + UNSEEN);
             }
         });
         return all;
@@ -52,8 +64,8 @@ final class Certainty {
 
     /** The files in which some error may be a wrong alarm. */
     static Set<String> doubted(List<String> lines) {
-        return lines.stream().filter(each -> each.endsWith(DOUBT)).map(each -> PLACED.matcher(
-            each.replace(DOUBT, ERROR))).filter(Matcher::matches).map(each -> each.group(1)).collect(Collectors.toSet());
+        return lines.stream().filter(each -> each.endsWith(DOUBT) || each.endsWith(UNSEEN)).map(each -> PLACED.matcher(
+            each.replace(DOUBT, ERROR).replace(UNSEEN, ERROR))).filter(Matcher::matches).map(each -> each.group(1)).collect(Collectors.toSet());
     }
 
     /** The errors in the order of their places, each once and with the lines behind it. */

@@ -1,5 +1,6 @@
 package atomic.java.driver;
 
+import atomic.java.certainty.Interruptions;
 import atomic.java.options.Options;
 import atomic.java.options.Refusal;
 import atomic.java.passes.Callees;
@@ -88,8 +89,7 @@ final class Judging {
 
     /** Begins to judge the methods at which these errors were told, and will tell of errors alone. */
     void ask(List<String> errors) {
-        Set<String> places = errors.stream().filter(line -> line.contains(Certainty.ERROR))
-            .map(line -> line.substring(0, line.indexOf(Certainty.ERROR))).collect(Collectors.toSet());
+        Set<String> places = places(errors);
         ask(roots().stream().filter(each -> places.contains(String.valueOf(each.place()))).toList(), false);
     }
 
@@ -109,6 +109,26 @@ final class Judging {
     void finish() {
         asked.forEach(this::judge);
         asked.clear();
+    }
+
+    /** The places of methods with an error of which some method can tell that another thread came in between. */
+    Map<String, Method> witnessed(List<String> errors) {
+        Set<String> places = places(errors);
+        Interruptions interruptions = new Interruptions(program, methods.callable());
+        Map<String, Method> witnesses = new HashMap<>();
+        for (Method each : roots()) {
+            String place = String.valueOf(each.place());
+            Method witness = places.contains(place) ? interruptions.witness(each) : null;
+            if (witness != null) {
+                witnesses.putIfAbsent(place, witness);
+            }
+        }
+        return witnesses;
+    }
+
+    private static Set<String> places(List<String> errors) {
+        return errors.stream().filter(line -> line.contains(Certainty.ERROR))
+            .map(line -> line.substring(0, line.indexOf(Certainty.ERROR))).collect(Collectors.toSet());
     }
 
     private List<Method> roots() {

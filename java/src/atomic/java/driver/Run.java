@@ -69,9 +69,9 @@ public final class Run {
         judging.finish();
         emit(judging.texts());
         List<String> errors = judging.lines();
-        if (judging.status() != 0 && program.notes().approximates()) {
-            certain = certain == null ? certain(attribution, checker) : certain;
-            errors = lines(judging, certain);
+        if (judging.status() != 0) {
+            certain = certain == null && approximates ? certain(attribution, checker) : certain;
+            errors = lines(judging, certain == null ? judging : certain);
         }
         program.notes().reveal(Certainty.doubted(errors));
         if (!options.quiet()) {
@@ -102,9 +102,14 @@ public final class Run {
 
     /** The errors, each with what else is refused for certain. */
     private static List<String> lines(Judging judging, Judging certain) {
-        certain.ask(judging.lines());
-        certain.finish();
-        return new Certainty(judging.lines(), certain.lines()).lines();
+        if (certain != judging) {
+            certain.ask(judging.lines());
+            certain.finish();
+        }
+        if (System.getenv("ATOMIC_REASONS") != null) { // debugging
+            judging.witnessed(judging.lines()).forEach((place, method) -> System.err.println("reason " + place + " " + method.name() + " " + method.place()));
+        }
+        return new Certainty(judging.lines(), certain.lines(), certain.witnessed(judging.lines())::containsKey).lines();
     }
 
     /** Without promises or guards little is judged: what would help is told, beside the answer. */

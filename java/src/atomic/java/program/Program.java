@@ -5,6 +5,7 @@ import atomic.java.library.Library;
 import atomic.java.options.Options;
 import atomic.java.places.Names;
 import atomic.java.places.Notes;
+import atomic.java.skeleton.Place;
 import atomic.java.skeleton.Shape;
 import com.sun.source.tree.ClassTree;
 import com.sun.source.tree.CompilationUnitTree;
@@ -41,6 +42,7 @@ public final class Program {
     private final Map<Element, JavaMethod> methods = new LinkedHashMap<>();
     private final Map<String, Integer> lambdas = new HashMap<>();
     private final List<Shape> shapes = new ArrayList<>();
+    private final Map<Place, Touch> touches = new HashMap<>();
     private final Shape object = new Shape("Object", null);
     private final Shape statics = new Shape("Statics", null);
     private final Shape helpers = new Shape("Library", null);
@@ -198,6 +200,11 @@ public final class Program {
 
     public Notes notes() {
         return notes;
+    }
+
+    /** What the calls at places do with a library's objects that are safe by themselves. */
+    public Map<Place, Touch> touches() {
+        return touches;
     }
 
     /** All classes of the skeleton. */

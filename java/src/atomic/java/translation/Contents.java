@@ -48,6 +48,7 @@ final class Contents {
 
     /** A call that looks at an object's contents or changes them; of an object that others may know it is compound. */
     void call(Value object, boolean write, Tree at, String shown) {
+        new Touches(services).note(at);
         if (!known(object, write, at, shown)) {
             Method.Doubt doubt = shown.startsWith("Entry.") ? Method.Doubt.ANY : doubt(object, at);
             body.emit(services.doubt(doubt, shown, true, body, at,

@@ -83,6 +83,13 @@ public final class Methods {
         return all;
     }
 
+    /** Those of them that other threads may begin with. */
+    public Set<Method> callable() {
+        Set<Method> all = roots();
+        all.removeIf(each -> judged.containsKey(each) && (judged.get(each).isPrivate() || judged.get(each).isConstructor()));
+        return all;
+    }
+
     /** Whether a Java method says that it is atomic. */
     public boolean promises(JavaMethod method) {
         return method != null && promises.isAtomic(method, families);

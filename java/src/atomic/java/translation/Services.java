@@ -99,16 +99,19 @@ final class Services {
 
     /** A call of what is one step, or several, that Java calls {@code shown}. */
     Part step(String shown, boolean compound, Tree at) {
+        new Touches(this).note(at);
         return helper(shown, compound, Method.Doubt.NONE, program.attribution().name(at));
     }
 
     /** A look that may be no step where some lock is held. */
     Part look(String shown, Tree at) {
+        new Touches(this).note(at);
         return helper(shown, false, program.sure() ? Method.Doubt.OPEN : Method.Doubt.NONE, program.attribution().name(at));
     }
 
     /** The same of what counts as more than it may be, and that is told. */
     Part doubt(Method.Doubt doubt, String shown, boolean compound, Body body, Tree at, String why) {
+        new Touches(this).note(at);
         tell(Notes.Kind.APPROXIMATED, body, at, why);
         return helper(shown, compound, doubt, program.attribution().name(at));
     }

@@ -1,0 +1,118 @@
+package atomic.java.certainty;
+
+import atomic.java.certainty.Event.Hold;
+import atomic.java.passes.Callees;
+import atomic.java.program.Touch;
+import atomic.java.skeleton.Method;
+import atomic.java.skeleton.Part;
+import atomic.java.skeleton.Place;
+import atomic.java.skeleton.Shape;
+import java.util.ArrayList;
+import java.util.HashMap;
+import java.util.HashSet;
+import java.util.List;
+import java.util.Map;
+import java.util.Set;
+
+/**
+ * What a method does, one event behind the other, with what the methods do that it calls. A loop is two turns. Of a long
+ * method the beginning is enough: what isn't seen is no reason for anything.
+ */
+final class Course {
+    private static final int MOST_EVENTS = 160;
+    private static final int DEEPEST = 8;
+
+    /** A question that a region asks: behind the look at a thing a branch follows before the lock is given back. */
+    private record Asked(int region, Object thing) { }
+
+    private final Callees callees;
+    private final Map<Place, Touch> touches;
+    private final Shape library;
+    private final List<Event> events = new ArrayList<>();
+    private final Set<Hold> taken = new HashSet<>();
+    private final Set<Asked> asked = new HashSet<>();
+    private final List<Hold> held = new ArrayList<>();
+    private final Map<Integer, Integer> branches = new HashMap<>();
+    private int numbers;
+
+    Course(Method method, Callees callees, Map<Place, Touch> touches, Shape library) {
+        this.callees = callees;
+        this.touches = touches;
+        this.library = library;
+        method.required().forEach(each -> held.add(new Hold(numbers++, each, Part.Mode.EXCLUSIVE)));
+        taken.addAll(held);
+        part(method.body(), 0);
+    }
+
+    /** The events in their order. */
+    List<Event> events() {
+        return events;
+    }
+
+    /** All locks that some run takes. */
+    Set<Hold> taken() {
+        return taken;
+    }
+
+    /** Whether the region of an event asks about a thing, and what it does then depends on the answer. */
+    boolean asks(Event event, Object thing) {
+        return event.held().stream().anyMatch(each -> asked.contains(new Asked(each.number(), thing)));
+    }
+
+    private void part(Part part, int depth) {
+        if (events.size() >= MOST_EVENTS) {
+            return;
+        }
+        if (part instanceof Part.Access access) {
+            Touch touch = touches.get(access.place());
+            Touch.Kind kind = access.write() ? Touch.Kind.CHANGE : Touch.Kind.LOOK;
+            event(access.field(), touch == null || touch.kind().writes() != access.write() ? kind : touch.kind());
+        } else if (part instanceof Part.Call call) {
+            call(call, depth);
+        } else if (part instanceof Part.Region region) {
+            Hold hold = new Hold(numbers++, region.lock(), region.mode());
+            taken.add(hold);
+            held.add(hold);
+            part(region.body(), depth);
+            held.remove(held.size() - 1);
+        } else if (part instanceof Part.Either either) {
+            branch(List.of(either.left(), either.right()), depth);
+        } else if (part instanceof Part.Repeat repeat) {
+            part(repeat.body(), depth);
+            part(repeat.body(), depth);
+        } else {
+            part.parts().forEach(each -> part(each, depth));
+        }
+    }
+
+    private void event(Object thing, Touch.Kind kind) {
+        events.add(new Event(thing, kind, List.copyOf(held), Map.copyOf(branches)));
+    }
+
+    private void call(Part.Call call, int depth) {
+        if (call.target().owner() == library) {
+            Touch touch = touches.get(call.place());
+            if (touch != null) {
+                event(touch.object(), touch.kind());
+            }
+        } else if (depth < DEEPEST) {
+            List<Method> all = callees.of(call.target());
+            if (all.size() == 1) {
+                part(all.get(0).body(), depth + 1);
+            } else {
+                branch(all.stream().map(Method::body).toList(), depth + 1);
+            }
+        }
+    }
+
+    private void branch(List<Part> sides, int depth) {
+        held.forEach(hold -> events.stream().filter(each -> !each.writes() && each.held().contains(hold))
+            .forEach(each -> asked.add(new Asked(hold.number(), each.thing()))));
+        int number = numbers++;
+        for (int side = 0; side < sides.size(); side++) {
+            branches.put(number, side);
+            part(sides.get(side), depth);
+        }
+        branches.remove(number);
+    }
+}

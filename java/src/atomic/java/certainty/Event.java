@@ -1,0 +1,57 @@
+package atomic.java.certainty;
+
+import atomic.java.program.Touch;
+import atomic.java.skeleton.Part;
+import atomic.java.skeleton.Path;
+import java.util.List;
+import java.util.Map;
+
+/**
+ * Something that a method does with a field, a collection or another object that others may know.
+ *
+ * @param thing the field, or what stands for the object: two events touch the same where this is equal
+ * @param kind what is done
+ * @param held the locks that are held meanwhile, the outermost first
+ * @param branches the branches in which it stands: of each the side
+ */
+record Event(Object thing, Touch.Kind kind, List<Hold> held, Map<Integer, Integer> branches) {
+
+    /** A lock that is held from its taking on, which {@code number} tells; without a path it may be any lock. */
+    record Hold(int number, Path lock, Part.Mode mode) {
+
+        /** Whether nobody can take the other lock meanwhile: it may be the same one, and not both are readers. */
+        boolean keepsOut(Hold other) {
+            return !(mode == Part.Mode.SHARED && other.mode == Part.Mode.SHARED) && mayBe(other);
+        }
+
+        private boolean mayBe(Hold other) {
+            if (lock == null || other.lock == null) {
+                return true;
+            } else if (!lock.fields().isEmpty() && !other.lock.fields().isEmpty()) {
+                return lock.fields().get(lock.fields().size() - 1) == other.lock.fields().get(other.lock.fields().size() - 1);
+            }
+            return lock.type() == null || other.lock.type() == null || lock.type().fits(other.lock.type())
+                || other.lock.type().fits(lock.type());
+        }
+    }
+
+    boolean writes() {
+        return kind.writes();
+    }
+
+    /** Whether one run of a method may do both. */
+    boolean meets(Event other) {
+        return branches.entrySet().stream().allMatch(each ->
+            other.branches.getOrDefault(each.getKey(), each.getValue()).equals(each.getValue()));
+    }
+
+    /** The locks that are held at this event, at the other one, and all the time between the two. */
+    List<Hold> around(Event other) {
+        int common = 0;
+        while (common < held.size() && common < other.held.size()
+                && held.get(common).number() == other.held.get(common).number()) {
+            common++;
+        }
+        return held.subList(0, common);
+    }
+}

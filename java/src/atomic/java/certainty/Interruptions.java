@@ -1,0 +1,96 @@
+package atomic.java.certainty;
+
+import atomic.java.passes.Callees;
+import atomic.java.program.Program;
+import atomic.java.program.Touch;
+import atomic.java.skeleton.Method;
+import java.util.ArrayList;
+import java.util.Collection;
+import java.util.HashMap;
+import java.util.List;
+import java.util.Map;
+
+/**
+ * Whether somebody can tell that a method was interrupted. A reason to believe so is another method, or the same one in
+ * another thread, that may run as a whole between two events of the method: it needs no lock that is held there, it has
+ * a conflict with the first event, so that it comes behind the method, and one with the second, so that it comes in front.
+ * The closed list of such pairs of events:
+ * <ul>
+ * <li>a look and a later change of the same, and the other one changes it too: check-then-act, and the lost update;</li>
+ * <li>two changes, and the other one looks at both: a torn pair;</li>
+ * <li>two looks, and the other one changes both: a torn look;</li>
+ * <li>a look at one thing and a change of another, and the other method changes the one and touches the other.</li>
+ * </ul>
+ * No reason is a look that the region of the second event asks again, a change that is made only if nobody came in between,
+ * and a look-up of what is worked on then, where the other one only adds.
+ */
+public final class Interruptions {
+    private final Program program;
+    private final Callees callees;
+    private final List<Method> others;
+    private final Map<Method, Course> courses = new HashMap<>();
+
+    /** The methods of a program; {@code others} are those that other threads may call. */
+    public Interruptions(Program program, Collection<Method> others) {
+        this.program = program;
+        List<Method> all = new ArrayList<>();
+        program.shapes().forEach(shape -> all.addAll(shape.methods()));
+        callees = new Callees(all);
+        this.others = others.stream().filter(all::contains).toList();
+    }
+
+    /** The method that can tell that this one was interrupted, or null where none is seen. */
+    public Method witness(Method method) {
+        Course course = course(method);
+        List<Event> events = course.events();
+        for (int second = 1; second < events.size(); second++) {
+            for (int first = 0; first < second; first++) {
+                Event one = events.get(first);
+                Event two = events.get(second);
+                Method found = one.meets(two) && counts(course, one, two) ? between(one, two) : null;
+                if (found != null) {
+                    return found;
+                }
+            }
+        }
+        return null;
+    }
+
+    private Course course(Method method) {
+        return courses.computeIfAbsent(method, key -> new Course(key, callees, program.touches(), program.helpers()));
+    }
+
+    /** Whether a pair of events isn't one of those that are no reason. */
+    private static boolean counts(Course course, Event one, Event two) {
+        if (one.writes()) {
+            return true;
+        }
+        boolean again = course.asks(two, one.thing()) && one.around(two).size() < two.held().size();
+        return !again && !(two.kind() == Touch.Kind.COMPARE && two.thing().equals(one.thing()));
+    }
+
+    private Method between(Event one, Event two) {
+        List<Event.Hold> around = one.around(two);
+        for (Method other : others) {
+            Course course = course(other);
+            boolean kept = around.stream().anyMatch(each -> course.taken().stream().anyMatch(each::keepsOut));
+            if (!kept && tells(course.events(), one, two)) {
+                return other;
+            }
+        }
+        return null;
+    }
+
+    /** Whether a method that does these events has a conflict with both. */
+    private static boolean tells(List<Event> events, Event one, Event two) {
+        boolean found = one.kind() == Touch.Kind.FIND && !one.thing().equals(two.thing());
+        List<Event> firsts = events.stream().filter(each -> conflict(each, one)
+            && !(found && each.kind() == Touch.Kind.ADD)).toList();
+        List<Event> seconds = firsts.isEmpty() ? List.of() : events.stream().filter(each -> conflict(each, two)).toList();
+        return firsts.stream().anyMatch(each -> seconds.stream().anyMatch(each::meets));
+    }
+
+    private static boolean conflict(Event one, Event two) {
+        return one.thing().equals(two.thing()) && (one.writes() || two.writes());
+    }
+}

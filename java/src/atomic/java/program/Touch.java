@@ -1,0 +1,32 @@
+package atomic.java.program;
+
+/**
+ * What a library's call does with an object that is safe by itself, such as an atomic or a concurrent map.
+ *
+ * @param object the field that holds the object, or {@link Part} of it
+ * @param kind what is done with it
+ */
+public record Touch(Object object, Kind kind) {
+
+    /** What is found in an object that a field holds, such as the values of a map. */
+    public record Part(Object whole) { }
+
+    /** What a call does. */
+    public enum Kind {
+        /** It looks at the whole, such as its size. */
+        LOOK,
+        /** It looks one thing up. */
+        FIND,
+        /** It adds what isn't there. */
+        ADD,
+        /** It changes something. */
+        CHANGE,
+        /** It changes something if nobody came in between. */
+        COMPARE;
+
+        /** Whether it may change the object. */
+        public boolean writes() {
+            return this == ADD || this == CHANGE || this == COMPARE;
+        }
+    }
+}

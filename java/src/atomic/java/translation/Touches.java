@@ -1,0 +1,78 @@
+package atomic.java.translation;
+
+import atomic.java.ownership.Uses;
+import atomic.java.program.Touch;
+import com.sun.source.tree.ArrayAccessTree;
+import com.sun.source.tree.EnhancedForLoopTree;
+import com.sun.source.tree.ExpressionTree;
+import com.sun.source.tree.MemberSelectTree;
+import com.sun.source.tree.MethodInvocationTree;
+import com.sun.source.tree.Tree;
+import com.sun.source.tree.VariableTree;
+import java.util.Set;
+import javax.lang.model.element.VariableElement;
+
+/** Of which field a library's object is that a call touches, and what the call does with it, told by its name. */
+record Touches(Services services) {
+    private static final Set<String> FINDING = Set.of("get", "getOrDefault", "containsKey", "contains", "containsValue");
+    private static final Set<String> ADDING = Set.of("putIfAbsent", "computeIfAbsent", "addIfAbsent");
+    private static final Set<String> COMPARING = Set.of("compareAndSet", "weakCompareAndSet", "compareAndExchange",
+        "weakCompareAndSetVolatile", "weakCompareAndSetPlain");
+    private static final Set<String> LOOKING = Set.of("getPlain", "getAcquire", "getOpaque", "intValue", "longValue",
+        "doubleValue", "floatValue", "isEmpty", "peek", "peekFirst", "peekLast", "element", "getFirst", "getLast", "first",
+        "last", "size", "length", "mappingCount", "sum", "availablePermits", "remainingCapacity", "iterator", "forEach",
+        "stream", "keySet", "values", "entrySet", "toArray", "toString", "charAt", "substring", "indexOf", "firstKey",
+        "lastKey", "firstEntry", "lastEntry", "floorKey", "ceilingKey", "floorEntry", "ceilingEntry", "getCount", "isDone",
+        "getReference", "getStamp", "equals", "hashCode", "reduceValues", "search", "reduce");
+    private static final int DEEP = 8;
+
+    /** Notes of a call's place what it touches, where that is known. */
+    void note(Tree at) {
+        if (at instanceof MethodInvocationTree call && call.getMethodSelect() instanceof MemberSelectTree select) {
+            Object object = object(select.getExpression(), 0);
+            if (object != null) {
+                services.program().touches().put(services.attribution().name(at),
+                    new Touch(object, kind(select.getIdentifier().toString(), call)));
+            }
+        }
+    }
+
+    private static Touch.Kind kind(String name, MethodInvocationTree call) {
+        if (name.equals("get") && call.getArguments().isEmpty() || LOOKING.contains(name)) {
+            return Touch.Kind.LOOK;
+        }
+        return FINDING.contains(name) ? Touch.Kind.FIND : ADDING.contains(name) ? Touch.Kind.ADD
+            : COMPARING.contains(name) ? Touch.Kind.COMPARE : Touch.Kind.CHANGE;
+    }
+
+    /** The field whose object an expression gives, or a part of that; null where this isn't known. */
+    private Object object(ExpressionTree tree, int depth) {
+        ExpressionTree bare = Uses.bare(tree);
+        if (depth > DEEP) {
+            return null;
+        } else if (bare instanceof ArrayAccessTree element) {
+            return part(object(element.getExpression(), depth + 1));
+        } else if (bare instanceof MethodInvocationTree call) {
+            return call.getMethodSelect() instanceof MemberSelectTree select
+                && services.program().method(services.attribution().element(call)) == null
+                ? part(object(select.getExpression(), depth + 1)) : null;
+        }
+        return services.attribution().element(bare) instanceof VariableElement variable
+            ? variable.getKind().isField() ? variable : local(variable, depth) : null;
+    }
+
+    private Object local(VariableElement variable, int depth) {
+        VariableTree declared = services.uses().declaration(variable);
+        if (declared == null || !services.uses().isSettled(variable)) {
+            return null;
+        } else if (declared.getInitializer() != null) {
+            return object(declared.getInitializer(), depth + 1);
+        }
+        return services.attribution().parent(declared) instanceof EnhancedForLoopTree loop
+            ? part(object(loop.getExpression(), depth + 1)) : null;
+    }
+
+    private static Object part(Object whole) {
+        return whole == null || whole instanceof Touch.Part ? whole : new Touch.Part(whole);
+    }
+}
