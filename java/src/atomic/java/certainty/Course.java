@@ -2,6 +2,7 @@ package atomic.java.certainty;
 
 import atomic.java.certainty.Event.Hold;
 import atomic.java.passes.Callees;
+import atomic.java.program.Program;
 import atomic.java.program.Touch;
 import atomic.java.skeleton.Method;
 import atomic.java.skeleton.Part;
@@ -22,23 +23,30 @@ final class Course {
     private static final int MOST_EVENTS = 160;
     private static final int DEEPEST = 8;
 
-    /** A question that a region asks: behind the look at a thing a branch follows before the lock is given back. */
+    /**
+     * A question that a region of the method itself asks: behind the look at a thing a branch follows before the lock is given
+     * back. What a method asks that others may call as well is its own question, and not this one again.
+     */
     private record Asked(int region, Object thing) { }
 
     private final Callees callees;
     private final Map<Place, Touch> touches;
     private final Shape library;
+    private final Set<Method> others;
     private final List<Event> events = new ArrayList<>();
     private final Set<Hold> taken = new HashSet<>();
     private final Set<Asked> asked = new HashSet<>();
     private final List<Hold> held = new ArrayList<>();
+    private final Set<Hold> own = new HashSet<>();
     private final Map<Integer, Integer> branches = new HashMap<>();
     private int numbers;
+    private int inOthers;
 
-    Course(Method method, Callees callees, Map<Place, Touch> touches, Shape library) {
+    Course(Method method, Callees callees, Set<Method> others, Program program) {
         this.callees = callees;
-        this.touches = touches;
-        this.library = library;
+        this.others = others;
+        touches = program.touches();
+        library = program.helpers();
         method.required().forEach(each -> held.add(new Hold(numbers++, each, Part.Mode.EXCLUSIVE)));
         taken.addAll(held);
         part(method.body(), 0);
@@ -73,8 +81,12 @@ final class Course {
             Hold hold = new Hold(numbers++, region.lock(), region.mode());
             taken.add(hold);
             held.add(hold);
+            if (inOthers == 0) {
+                own.add(hold);
+            }
             part(region.body(), depth);
-            held.remove(held.size() - 1);
+            held.remove(hold);
+            own.remove(hold);
         } else if (part instanceof Part.Either either) {
             branch(List.of(either.left(), either.right()), depth);
         } else if (part instanceof Part.Repeat repeat) {
@@ -93,20 +105,28 @@ final class Course {
         if (call.target().owner() == library) {
             Touch touch = touches.get(call.place());
             if (touch != null) {
-                event(touch.object(), touch.kind());
+                // What is several steps is two events.
+                steps(call.target().body()).forEach(each -> event(touch.object(), touch.kind()));
             }
         } else if (depth < DEEPEST) {
             List<Method> all = callees.of(call.target());
+            boolean other = others.contains(call.target());
+            inOthers += other ? 1 : 0;
             if (all.size() == 1) {
                 part(all.get(0).body(), depth + 1);
             } else {
                 branch(all.stream().map(Method::body).toList(), depth + 1);
             }
+            inOthers -= other ? 1 : 0;
         }
     }
 
+    private static List<Part> steps(Part body) {
+        return body instanceof Part.Sequence ? body.parts() : List.of(body);
+    }
+
     private void branch(List<Part> sides, int depth) {
-        held.forEach(hold -> events.stream().filter(each -> !each.writes() && each.held().contains(hold))
+        own.forEach(hold -> events.stream().filter(each -> !each.writes() && each.held().contains(hold))
             .forEach(each -> asked.add(new Asked(hold.number(), each.thing()))));
         int number = numbers++;
         for (int side = 0; side < sides.size(); side++) {

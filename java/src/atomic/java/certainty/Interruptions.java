@@ -7,8 +7,10 @@ import atomic.java.skeleton.Method;
 import java.util.ArrayList;
 import java.util.Collection;
 import java.util.HashMap;
+import java.util.LinkedHashSet;
 import java.util.List;
 import java.util.Map;
+import java.util.Set;
 
 /**
  * Whether somebody can tell that a method was interrupted. A reason to believe so is another method, or the same one in
@@ -27,7 +29,7 @@ import java.util.Map;
 public final class Interruptions {
     private final Program program;
     private final Callees callees;
-    private final List<Method> others;
+    private final Set<Method> others;
     private final Map<Method, Course> courses = new HashMap<>();
 
     /** The methods of a program; {@code others} are those that other threads may call. */
@@ -36,7 +38,8 @@ public final class Interruptions {
         List<Method> all = new ArrayList<>();
         program.shapes().forEach(shape -> all.addAll(shape.methods()));
         callees = new Callees(all);
-        this.others = others.stream().filter(all::contains).toList();
+        this.others = new LinkedHashSet<>(others);
+        this.others.retainAll(all);
     }
 
     /** The method that can tell that this one was interrupted, or null where none is seen. */
@@ -57,7 +60,7 @@ public final class Interruptions {
     }
 
     private Course course(Method method) {
-        return courses.computeIfAbsent(method, key -> new Course(key, callees, program.touches(), program.helpers()));
+        return courses.computeIfAbsent(method, key -> new Course(key, callees, others, program));
     }
 
     /** Whether a pair of events isn't one of those that are no reason. */

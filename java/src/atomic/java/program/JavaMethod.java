@@ -26,6 +26,12 @@ public record JavaMethod(ExecutableElement symbol, MethodTree tree, JavaClass ow
             || owner.isInterface();
     }
 
+    /** Whether code that isn't beside it may call it: it isn't private, nor one of a private class that isn't public. */
+    public boolean isCallable() {
+        return !isConstructor() && !isPrivate() && (symbol.getModifiers().contains(Modifier.PUBLIC)
+            || !owner.symbol().getModifiers().contains(Modifier.PRIVATE));
+    }
+
     /** Whether only classes below and those of its package may call it: where none is missing, all calls are known. */
     public boolean isForHeirs() {
         return symbol.getModifiers().contains(Modifier.PROTECTED) && !owner.isInterface();

@@ -86,7 +86,7 @@ public final class Methods {
     /** Those of them that other threads may begin with. */
     public Set<Method> callable() {
         Set<Method> all = roots();
-        all.removeIf(each -> judged.containsKey(each) && (judged.get(each).isPrivate() || judged.get(each).isConstructor()));
+        all.removeIf(each -> judged.containsKey(each) && !judged.get(each).isCallable());
         return all;
     }
 
