@@ -14,6 +14,7 @@ import java.util.HashSet;
 import java.util.List;
 import java.util.Map;
 import java.util.Set;
+import java.util.stream.Stream;
 
 /**
  * What a method does, one event behind the other, with what the methods do that it calls. A loop is two turns. Of a long
@@ -62,9 +63,27 @@ final class Course {
         return taken;
     }
 
-    /** Whether the region of an event asks about a thing, and what it does then depends on the answer. */
-    boolean asks(Event event, Object thing) {
-        return event.held().stream().anyMatch(each -> asked.contains(new Asked(each.number(), thing)));
+    /**
+     * Whether a region that the second event stands in, and the first one doesn't, asks again what the first one looked at, or
+     * what was looked at together with it under one lock; behind a look-up, whether it asks anything.
+     */
+    boolean asksAgain(Event first, Event second) {
+        int common = first.around(second).size();
+        List<Hold> later = second.held().subList(common, second.held().size());
+        return asked.stream().anyMatch(each -> later.stream().anyMatch(hold -> hold.number() == each.region())
+            && (first.finds() || each.thing().equals(first.thing()) || together(first, common).anyMatch(other ->
+                !other.writes() && other.thing().equals(each.thing()))));
+    }
+
+    /** What stands in the same regions as an event, of those that are not among the outer ones. */
+    private Stream<Event> together(Event event, int outer) {
+        return event.held().size() <= outer ? Stream.empty()
+            : events.stream().filter(each -> each.around(event).size() > outer);
+    }
+
+    /** Whether some change of a thing is made only if nobody came in between. */
+    boolean compares(Object thing) {
+        return events.stream().anyMatch(each -> each.compares() && each.thing().equals(thing));
     }
 
     private void part(Part part, int depth) {
@@ -74,7 +93,7 @@ final class Course {
         if (part instanceof Part.Access access) {
             Touch touch = touches.get(access.place());
             Touch.Kind kind = access.write() ? Touch.Kind.CHANGE : Touch.Kind.LOOK;
-            event(access.field(), touch == null || touch.kind().writes() != access.write() ? kind : touch.kind());
+            event(access.field(), touch == null || touch.kind().writes() != access.write() ? new Touch(null, kind, "") : touch);
         } else if (part instanceof Part.Call call) {
             call(call, depth);
         } else if (part instanceof Part.Region region) {
@@ -97,8 +116,8 @@ final class Course {
         }
     }
 
-    private void event(Object thing, Touch.Kind kind) {
-        events.add(new Event(thing, kind, List.copyOf(held), Map.copyOf(branches)));
+    private void event(Object thing, Touch touch) {
+        events.add(new Event(thing, touch.kind(), touch.asked(), List.copyOf(held), Map.copyOf(branches)));
     }
 
     private void call(Part.Call call, int depth) {
@@ -106,7 +125,7 @@ final class Course {
             Touch touch = touches.get(call.place());
             if (touch != null) {
                 // What is several steps is two events.
-                steps(call.target().body()).forEach(each -> event(touch.object(), touch.kind()));
+                steps(call.target().body()).forEach(each -> event(touch.object(), touch));
             }
         } else if (depth < DEEPEST) {
             List<Method> all = callees.of(call.target());

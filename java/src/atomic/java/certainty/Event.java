@@ -11,10 +11,11 @@ import java.util.Map;
  *
  * @param thing the field, or what stands for the object: two events touch the same where this is equal
  * @param kind what is done
+ * @param asked what a look-up asks for, as it is written
  * @param held the locks that are held meanwhile, the outermost first
  * @param branches the branches in which it stands: of each the side
  */
-record Event(Object thing, Touch.Kind kind, List<Hold> held, Map<Integer, Integer> branches) {
+record Event(Object thing, Touch.Kind kind, String asked, List<Hold> held, Map<Integer, Integer> branches) {
 
     /** A lock that is held from its taking on, which {@code number} tells; without a path it may be any lock. */
     record Hold(int number, Path lock, Part.Mode mode) {
@@ -37,6 +38,20 @@ record Event(Object thing, Touch.Kind kind, List<Hold> held, Map<Integer, Intege
 
     boolean writes() {
         return kind.writes();
+    }
+
+    boolean isSame(Event other) {
+        return thing.equals(other.thing);
+    }
+
+    /** Whether it is a look-up of one thing among others. */
+    boolean finds() {
+        return kind == Touch.Kind.FIND;
+    }
+
+    /** Whether it is a change that is made only if nobody came in between. */
+    boolean compares() {
+        return kind == Touch.Kind.COMPARE;
     }
 
     /** Whether one run of a method may do both. */

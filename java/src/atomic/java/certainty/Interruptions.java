@@ -23,8 +23,9 @@ import java.util.Set;
  * <li>two looks, and the other one changes both: a torn look;</li>
  * <li>a look at one thing and a change of another, and the other method changes the one and touches the other.</li>
  * </ul>
- * No reason is a look that the region of the second event asks again, a change that is made only if nobody came in between,
- * and a look-up of what is worked on then, where the other one only adds.
+ * No reason is a look that a region asks again before the second event, by itself or by what was looked at with it; a turn that
+ * tries again where somebody came in between; a look-up of what is worked on then, where the other method only adds, or where a
+ * region asks the found one anything; and two look-ups of two things, of which the other method changes one.
  */
 public final class Interruptions {
     private final Program program;
@@ -50,7 +51,7 @@ public final class Interruptions {
             for (int first = 0; first < second; first++) {
                 Event one = events.get(first);
                 Event two = events.get(second);
-                Method found = one.meets(two) && counts(course, one, two) ? between(one, two) : null;
+                Method found = one.meets(two) && counts(course, first, second) ? between(one, two) : null;
                 if (found != null) {
                     return found;
                 }
@@ -64,12 +65,12 @@ public final class Interruptions {
     }
 
     /** Whether a pair of events isn't one of those that are no reason. */
-    private static boolean counts(Course course, Event one, Event two) {
-        if (one.writes()) {
-            return true;
-        }
-        boolean again = course.asks(two, one.thing()) && one.around(two).size() < two.held().size();
-        return !again && !(two.kind() == Touch.Kind.COMPARE && two.thing().equals(one.thing()));
+    private static boolean counts(Course course, int first, int second) {
+        Event one = course.events().get(first);
+        Event two = course.events().get(second);
+        boolean tried = one.isSame(two) && course.compares(one.thing()) && (one.compares() || !one.writes());
+        return !tried && (one.writes() || course.events().subList(first + 1, second + 1).stream().noneMatch(each ->
+            course.asksAgain(one, each)));
     }
 
     private Method between(Event one, Event two) {
@@ -86,14 +87,16 @@ public final class Interruptions {
 
     /** Whether a method that does these events has a conflict with both. */
     private static boolean tells(List<Event> events, Event one, Event two) {
-        boolean found = one.kind() == Touch.Kind.FIND && !one.thing().equals(two.thing());
+        boolean found = one.finds() && !one.isSame(two);
+        boolean apart = one.finds() && two.finds() && !one.asked().equals(two.asked());
         List<Event> firsts = events.stream().filter(each -> conflict(each, one)
             && !(found && each.kind() == Touch.Kind.ADD)).toList();
         List<Event> seconds = firsts.isEmpty() ? List.of() : events.stream().filter(each -> conflict(each, two)).toList();
-        return firsts.stream().anyMatch(each -> seconds.stream().anyMatch(each::meets));
+        return firsts.stream().anyMatch(each -> seconds.stream().anyMatch(other ->
+            each.meets(other) && !(apart && each == other)));
     }
 
     private static boolean conflict(Event one, Event two) {
-        return one.thing().equals(two.thing()) && (one.writes() || two.writes());
+        return one.isSame(two) && (one.writes() || two.writes());
     }
 }

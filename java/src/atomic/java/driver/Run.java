@@ -27,7 +27,9 @@ import java.io.IOException;
 import java.nio.file.Files;
 import java.nio.file.Path;
 import java.util.ArrayList;
+import java.util.HashSet;
 import java.util.List;
+import java.util.Set;
 
 /** One run of the program: from the words of the command line to the answer. */
 public final class Run {
@@ -106,10 +108,12 @@ public final class Run {
             certain.ask(judging.lines());
             certain.finish();
         }
+        Set<String> told = new HashSet<>(judging.witnessed(judging.lines()).keySet());
+        told.retainAll(certain.witnessed(judging.lines()).keySet());
         if (System.getenv("ATOMIC_REASONS") != null) { // debugging
             judging.witnessed(judging.lines()).forEach((place, method) -> System.err.println("reason " + place + " " + method.name() + " " + method.place()));
         }
-        return new Certainty(judging.lines(), certain.lines(), certain.witnessed(judging.lines())::containsKey).lines();
+        return new Certainty(judging.lines(), certain.lines(), told::contains).lines();
     }
 
     /** Without promises or guards little is judged: what would help is told, beside the answer. */

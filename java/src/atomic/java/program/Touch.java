@@ -5,8 +5,9 @@ package atomic.java.program;
  *
  * @param object the field that holds the object, or {@link Part} of it
  * @param kind what is done with it
+ * @param asked the arguments of the call as they are written
  */
-public record Touch(Object object, Kind kind) {
+public record Touch(Object object, Kind kind, String asked) {
 
     /** What is found in an object that a field holds, such as the values of a map. */
     public record Part(Object whole) { }

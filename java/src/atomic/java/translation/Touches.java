@@ -32,7 +32,7 @@ record Touches(Services services) {
             Object object = object(select.getExpression(), 0);
             if (object != null) {
                 services.program().touches().put(services.attribution().name(at),
-                    new Touch(object, kind(select.getIdentifier().toString(), call)));
+                    new Touch(object, kind(select.getIdentifier().toString(), call), call.getArguments().toString()));
             }
         }
     }
