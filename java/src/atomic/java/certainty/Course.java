@@ -17,8 +17,9 @@ import java.util.Set;
 import java.util.stream.Stream;
 
 /**
- * What a method does, one event behind the other, with what the methods do that it calls. A loop is two turns. Of a long
- * method the beginning is enough: what isn't seen is no reason for anything.
+ * What a method does, one event behind the other, with what the methods do that it calls. A loop is two turns, and
+ * an endless one is one turn, since those before the last may have been attempts. Of a long method the beginning is enough:
+ * what isn't seen is no reason for anything.
  */
 final class Course {
     private static final int MOST_EVENTS = 160;
@@ -32,6 +33,7 @@ final class Course {
 
     private final Callees callees;
     private final Map<Place, Touch> touches;
+    private final Set<Place> endless;
     private final Shape library;
     private final Set<Method> others;
     private final List<Event> events = new ArrayList<>();
@@ -40,13 +42,17 @@ final class Course {
     private final List<Hold> held = new ArrayList<>();
     private final Set<Hold> own = new HashSet<>();
     private final Map<Integer, Integer> branches = new HashMap<>();
+    private final Program program;
+    private boolean dark;
     private int numbers;
     private int inOthers;
 
     Course(Method method, Callees callees, Set<Method> others, Program program) {
         this.callees = callees;
         this.others = others;
+        this.program = program;
         touches = program.touches();
+        endless = program.endless();
         library = program.helpers();
         method.required().forEach(each -> held.add(new Hold(numbers++, each, Part.Mode.EXCLUSIVE)));
         taken.addAll(held);
@@ -56,6 +62,11 @@ final class Course {
     /** The events in their order. */
     List<Event> events() {
         return events;
+    }
+
+    /** Whether it takes or gives back a lock in no form that is known: then what is held isn't known, and nothing is a reason. */
+    boolean isDark() {
+        return dark;
     }
 
     /** All locks that some run takes. */
@@ -110,7 +121,9 @@ final class Course {
             branch(List.of(either.left(), either.right()), depth);
         } else if (part instanceof Part.Repeat repeat) {
             part(repeat.body(), depth);
-            part(repeat.body(), depth);
+            if (!endless.contains(repeat.place())) {
+                part(repeat.body(), depth);
+            }
         } else {
             part.parts().forEach(each -> part(each, depth));
         }
@@ -122,6 +135,7 @@ final class Course {
 
     private void call(Part.Call call, int depth) {
         if (call.target().owner() == library) {
+            dark |= program.names().shown(call.target().name()).matches("=\\w*Lock\\.(un)?lock\\w*");
             Touch touch = touches.get(call.place());
             if (touch != null) {
                 // What is several steps is two events.

@@ -1,6 +1,7 @@
 package atomic.java.certainty;
 
 import atomic.java.program.Touch;
+import atomic.java.skeleton.Field;
 import atomic.java.skeleton.Part;
 import atomic.java.skeleton.Path;
 import java.util.List;
@@ -52,6 +53,16 @@ record Event(Object thing, Touch.Kind kind, String asked, List<Hold> held, Map<I
     /** Whether it is a change that is made only if nobody came in between. */
     boolean compares() {
         return kind == Touch.Kind.COMPARE;
+    }
+
+    /** Whether it is one of plain data, which another thing may publish. */
+    boolean isPlain() {
+        return thing instanceof Field field && !field.ordered();
+    }
+
+    /** Whether it stands in a branch that the other one doesn't stand in. */
+    boolean isBehindTestOf(Event other) {
+        return !other.branches.keySet().containsAll(branches.keySet());
     }
 
     /** Whether one run of a method may do both. */

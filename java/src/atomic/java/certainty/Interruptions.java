@@ -46,7 +46,7 @@ public final class Interruptions {
     /** The method that can tell that this one was interrupted, or null where none is seen. */
     public Method witness(Method method) {
         Course course = course(method);
-        List<Event> events = course.events();
+        List<Event> events = course.isDark() ? List.of() : course.events();
         for (int second = 1; second < events.size(); second++) {
             for (int first = 0; first < second; first++) {
                 Event one = events.get(first);
@@ -77,7 +77,7 @@ public final class Interruptions {
         List<Event.Hold> around = one.around(two);
         for (Method other : others) {
             Course course = course(other);
-            boolean kept = around.stream().anyMatch(each -> course.taken().stream().anyMatch(each::keepsOut));
+            boolean kept = course.isDark() || around.stream().anyMatch(each -> course.taken().stream().anyMatch(each::keepsOut));
             if (!kept && tells(course.events(), one, two)) {
                 return other;
             }
@@ -93,7 +93,13 @@ public final class Interruptions {
             && !(found && each.kind() == Touch.Kind.ADD)).toList();
         List<Event> seconds = firsts.isEmpty() ? List.of() : events.stream().filter(each -> conflict(each, two)).toList();
         return firsts.stream().anyMatch(each -> seconds.stream().anyMatch(other ->
-            each.meets(other) && !(apart && each == other)));
+            each.meets(other) && !(apart && each == other) && !published(each, other, one, two)));
+    }
+
+    /** Whether plain data is changed before what publishes it, and only looked at where that tells of it. */
+    private static boolean published(Event data, Event flag, Event one, Event two) {
+        return one.isPlain() && !two.isPlain() && one.writes() && !data.writes() && !flag.writes()
+            && data.isBehindTestOf(flag);
     }
 
     private static boolean conflict(Event one, Event two) {

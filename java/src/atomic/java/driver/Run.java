@@ -110,9 +110,6 @@ public final class Run {
         }
         Set<String> told = new HashSet<>(judging.witnessed(judging.lines()).keySet());
         told.retainAll(certain.witnessed(judging.lines()).keySet());
-        if (System.getenv("ATOMIC_REASONS") != null) { // debugging
-            judging.witnessed(judging.lines()).forEach((place, method) -> System.err.println("reason " + place + " " + method.name() + " " + method.place()));
-        }
         return new Certainty(judging.lines(), certain.lines(), told::contains).lines();
     }
 

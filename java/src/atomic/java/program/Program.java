@@ -16,9 +16,11 @@ import com.sun.source.util.TreeScanner;
 import java.util.ArrayList;
 import java.util.Collection;
 import java.util.HashMap;
+import java.util.HashSet;
 import java.util.LinkedHashMap;
 import java.util.List;
 import java.util.Map;
+import java.util.Set;
 import javax.lang.model.element.Element;
 import javax.lang.model.element.ElementKind;
 import javax.lang.model.element.ExecutableElement;
@@ -43,6 +45,7 @@ public final class Program {
     private final Map<String, Integer> lambdas = new HashMap<>();
     private final List<Shape> shapes = new ArrayList<>();
     private final Map<Place, Touch> touches = new HashMap<>();
+    private final Set<Place> endless = new HashSet<>();
     private final Shape object = new Shape("Object", null);
     private final Shape statics = new Shape("Statics", null);
     private final Shape helpers = new Shape("Library", null);
@@ -205,6 +208,11 @@ public final class Program {
     /** What the calls at places do with a library's objects that are safe by themselves. */
     public Map<Place, Touch> touches() {
         return touches;
+    }
+
+    /** The places of loops that only end where a turn leaves them: turns before that may have been attempts. */
+    public Set<Place> endless() {
+        return endless;
     }
 
     /** All classes of the skeleton. */

@@ -48,7 +48,6 @@ final class Contents {
 
     /** A call that looks at an object's contents or changes them; of an object that others may know it is compound. */
     void call(Value object, boolean write, Tree at, String shown) {
-        new Touches(services).note(at);
         if (!known(object, write, at, shown)) {
             Method.Doubt doubt = shown.startsWith("Entry.") ? Method.Doubt.ANY : doubt(object, at);
             body.emit(services.doubt(doubt, shown, true, body, at,
@@ -103,6 +102,7 @@ final class Contents {
             return true;
         } else if (object instanceof Value.Owned owned) {
             if (!(owned.receiver() instanceof Value.Fresh)) {
+                new Touches(services).note(at);
                 body.emit(new Part.Access(owned.receiver(), owned.contents(), write, services.attribution().name(at)));
             }
             services.functions().compare(services.fields().comparing(owned.contents()), body, at);

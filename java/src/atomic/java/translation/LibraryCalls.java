@@ -167,6 +167,7 @@ final class LibraryCalls {
                 }
                 boolean own = choice.runsFunctions() && called.arguments().stream().map(Uses::bare).anyMatch(each ->
                     each instanceof LambdaExpressionTree || each instanceof MemberReferenceTree);
+                new Touches(services).note(called.at());
                 boolean any = own || isLock(called) || new StableLooks(services).counts(called);
                 body.emit(services.doubt(any ? Method.Doubt.ANY : Method.Doubt.OPEN, called.shown(), true, body, called.at(),
                     "compound library call: " + called.shown() + " counts as several steps"));

@@ -100,6 +100,16 @@ final class Retries {
         return statement instanceof BlockTree block ? new ArrayList<>(block.getStatements()) : List.of(statement);
     }
 
+    /** Whether a loop only ends where a turn leaves it. */
+    static boolean isEndless(StatementTree loop) {
+        if (loop instanceof WhileLoopTree turns) {
+            return isTrue(turns.getCondition());
+        } else if (loop instanceof DoWhileLoopTree turns) {
+            return isTrue(turns.getCondition());
+        }
+        return loop instanceof ForLoopTree turns && isTrue(turns.getCondition());
+    }
+
     /** Whether a condition always holds. */
     static boolean isTrue(ExpressionTree condition) {
         return condition == null || Uses.bare(condition) instanceof LiteralTree literal

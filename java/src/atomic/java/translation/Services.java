@@ -111,7 +111,6 @@ final class Services {
 
     /** The same of what counts as more than it may be, and that is told. */
     Part doubt(Method.Doubt doubt, String shown, boolean compound, Body body, Tree at, String why) {
-        new Touches(this).note(at);
         tell(Notes.Kind.APPROXIMATED, body, at, why);
         return helper(shown, compound, doubt, program.attribution().name(at));
     }

@@ -239,6 +239,9 @@ final class Statements extends SimpleTreeVisitor<Void, Void> {
     private void repeat(StatementTree tree, Runnable turn) {
         StatementTree inner = tree instanceof WhileLoopTree loop ? loop.getStatement() : null;
         boolean once = inner != null && Jumps.leaves(inner);
+        if (Retries.isEndless(tree)) {
+            services.program().endless().add(services.attribution().place(tree));
+        }
         List<Part> last = new ArrayList<>();
         Part part = body.collect(() -> body.leavings().within(tree, last, turn));
         if (!Leavings.areApart(part, last)) {

@@ -10,6 +10,7 @@ import com.sun.source.tree.MethodInvocationTree;
 import com.sun.source.tree.Tree;
 import com.sun.source.tree.VariableTree;
 import java.util.Set;
+import javax.lang.model.element.Modifier;
 import javax.lang.model.element.VariableElement;
 
 /** Of which field a library's object is that a call touches, and what the call does with it, told by its name. */
@@ -30,11 +31,32 @@ record Touches(Services services) {
     void note(Tree at) {
         if (at instanceof MethodInvocationTree call && call.getMethodSelect() instanceof MemberSelectTree select) {
             Object object = object(select.getExpression(), 0);
-            if (object != null) {
+            if (object != null && !(kind(select.getIdentifier().toString(), call) == Touch.Kind.LOOK && isFlag(object))) {
                 services.program().touches().put(services.attribution().name(at),
                     new Touch(object, kind(select.getIdentifier().toString(), call), call.getArguments().toString()));
             }
         }
+    }
+
+    /** Whether a field holds a flag that never goes back: where it was seen to be set, a later look tells the same. */
+    private boolean isFlag(Object object) {
+        return object instanceof VariableElement field && field.getModifiers().contains(Modifier.PRIVATE)
+            && field.asType().toString().equals("java.util.concurrent.atomic.AtomicBoolean")
+            && services.uses().of(field).stream().allMatch(this::keeps);
+    }
+
+    private boolean keeps(Tree use) {
+        if (!(services.attribution().parent(use) instanceof MemberSelectTree select)
+                || !(services.attribution().parent(select) instanceof MethodInvocationTree call)) {
+            return services.uses().isTarget(use);
+        }
+        String arguments = call.getArguments().toString();
+        return switch (select.getIdentifier().toString()) {
+            case "get" -> true;
+            case "set", "getAndSet" -> arguments.equals("true");
+            case "compareAndSet" -> arguments.equals("false,true");
+            default -> false;
+        };
     }
 
     private static Touch.Kind kind(String name, MethodInvocationTree call) {
