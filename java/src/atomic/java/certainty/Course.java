@@ -26,8 +26,8 @@ final class Course {
     private static final int DEEPEST = 8;
 
     /**
-     * A question that a region of the method itself asks: behind the look at a thing a branch follows before the lock is given
-     * back. What a method asks that others may call as well is its own question, and not this one again.
+     * A question that a region of the method itself asks: behind the look at a thing a branch follows before the lock is
+     * given back. What a method asks that others may call as well is its own question, and not this one again.
      */
     private record Asked(int region, Object thing) { }
 
@@ -64,7 +64,7 @@ final class Course {
         return events;
     }
 
-    /** Whether it takes or gives back a lock in no form that is known: then what is held isn't known, and nothing is a reason. */
+    /** Whether a lock is taken or given back in no form that is known: what is held isn't known then. */
     boolean isDark() {
         return dark;
     }
@@ -104,7 +104,8 @@ final class Course {
         if (part instanceof Part.Access access) {
             Touch touch = touches.get(access.place());
             Touch.Kind kind = access.write() ? Touch.Kind.CHANGE : Touch.Kind.LOOK;
-            event(access.field(), touch == null || touch.kind().writes() != access.write() ? new Touch(null, kind, "") : touch);
+            boolean known = touch != null && touch.kind().writes() == access.write();
+            event(access.field(), known ? touch : new Touch(access.field(), kind, ""));
         } else if (part instanceof Part.Call call) {
             call(call, depth);
         } else if (part instanceof Part.Region region) {

@@ -30,11 +30,15 @@ record Event(Object thing, Touch.Kind kind, String asked, List<Hold> held, Map<I
             if (lock == null || other.lock == null) {
                 return true;
             } else if (!lock.fields().isEmpty() && !other.lock.fields().isEmpty()) {
-                return lock.fields().get(lock.fields().size() - 1) == other.lock.fields().get(other.lock.fields().size() - 1);
+                return last(lock) == last(other.lock);
             }
             return lock.type() == null || other.lock.type() == null || lock.type().fits(other.lock.type())
                 || other.lock.type().fits(lock.type());
         }
+    }
+
+    private static Field last(Path lock) {
+        return lock.fields().get(lock.fields().size() - 1);
     }
 
     boolean writes() {

@@ -23,9 +23,11 @@ import java.util.Set;
  * <li>two looks, and the other one changes both: a torn look;</li>
  * <li>a look at one thing and a change of another, and the other method changes the one and touches the other.</li>
  * </ul>
- * No reason is a look that a region asks again before the second event, by itself or by what was looked at with it; a turn that
- * tries again where somebody came in between; a look-up of what is worked on then, where the other method only adds, or where a
- * region asks the found one anything; and two look-ups of two things, of which the other method changes one.
+ * No reason is a look that a region asks again before the second event, by itself or by what was looked at with it; a turn
+ * that tries again where somebody came in between; a look-up of what is worked on then, where the other method only adds, or
+ * where a region asks the found one anything; two look-ups of two things, of which the other method changes one; plain data
+ * that a later change publishes, and that the other method only looks at behind a test of that; and all of a method that
+ * takes a lock in no form that is known.
  */
 public final class Interruptions {
     private final Program program;
@@ -77,8 +79,8 @@ public final class Interruptions {
         List<Event.Hold> around = one.around(two);
         for (Method other : others) {
             Course course = course(other);
-            boolean kept = course.isDark() || around.stream().anyMatch(each -> course.taken().stream().anyMatch(each::keepsOut));
-            if (!kept && tells(course.events(), one, two)) {
+            boolean kept = around.stream().anyMatch(each -> course.taken().stream().anyMatch(each::keepsOut));
+            if (!kept && !course.isDark() && tells(course.events(), one, two)) {
                 return other;
             }
         }

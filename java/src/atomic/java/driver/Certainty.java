@@ -34,7 +34,7 @@ final class Certainty {
     private final Map<String, List<String>> certain;
     private final Predicate<String> told;
 
-    /** The errors of both kinds; {@code told} says of the place of a method whether some method can tell an interruption. */
+    /** The errors of both kinds; {@code told} says of a method's place whether some method can tell an interruption. */
     Certainty(List<String> lines, List<String> certainLines, Predicate<String> told) {
         this.lines = lines;
         this.told = told;
@@ -62,10 +62,10 @@ final class Certainty {
         return all;
     }
 
-    /** The files in which some error may be a wrong alarm. */
+    /** The files in which some error may be a wrong alarm for what is approximated. */
     static Set<String> doubted(List<String> lines) {
-        return lines.stream().filter(each -> each.endsWith(DOUBT) || each.endsWith(UNSEEN)).map(each -> PLACED.matcher(
-            each.replace(DOUBT, ERROR).replace(UNSEEN, ERROR))).filter(Matcher::matches).map(each -> each.group(1)).collect(Collectors.toSet());
+        return lines.stream().filter(each -> each.endsWith(DOUBT)).map(each -> PLACED.matcher(
+            each.replace(DOUBT, ERROR))).filter(Matcher::matches).map(each -> each.group(1)).collect(Collectors.toSet());
     }
 
     /** The errors in the order of their places, each once and with the lines behind it. */
