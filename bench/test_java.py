@@ -7,6 +7,7 @@ users        classes as people bring them (java/tests/users): the verdicts that 
              alarm is told as one that may be wrong
 larger       accepted sources of ordinary style (java/tests/larger)
 mutants      these, each time without one lock, guard or @Holding: each is told, or its line says why that is harmless
+reasons      each reason for which an error is told as certain, and what looks like it and is none (java/tests/reasons)
 summaries    sources whose first line has the line of figures that comes (java/tests/summaries)
 pieces       a source whose skeleton is too long for one text
 
@@ -88,7 +89,15 @@ class Tester:
 
     def users(self) -> None:
         """Each class as its user judges it."""
-        for path in sorted((TESTS / "users").rglob("*.java")):
+        self.classes("users")
+
+    def reasons(self) -> None:
+        """What is certain and what is perhaps, side by side."""
+        self.classes("reasons")
+
+    def classes(self, folder: str) -> None:
+        """Each class with a mark for each error."""
+        for path in sorted((TESTS / folder).rglob("*.java")):
             text = path.read_text(encoding="utf-8")
             options = OPTIONS.search(text)
             answer = self.judged(options[1].split() if options else [], [path])
@@ -96,11 +105,13 @@ class Tester:
             self.alarms(path, text, answer)
 
     def alarms(self, path: Path, text: str, answer: Answer) -> None:
-        """Each wrong alarm says that it may be one."""
+        """Each wrong alarm says that it may be one, and what is marked as certain doesn't."""
         doubted = {line.line for line in answer.lines if line.text.startswith(DOUBT)}
         for number, (_, reason) in marks(text).items():
-            if reason.startswith("alarm") and number not in doubted:
+            if reason.startswith(("alarm", "perhaps")) and number not in doubted:
                 self.tell(f"{path.name}:{number}: a wrong alarm is told as certain: {reason}")
+            if reason.startswith("certain") and number in doubted:
+                self.tell(f"{path.name}:{number}: what is certain is told as perhaps: {reason}")
 
     def larger(self) -> None:
         """The larger sources as they are."""
@@ -177,7 +188,7 @@ class Tester:
 
 def main() -> None:
     """Tries the tests that are named."""
-    names = ["adversaries", "users", "larger", "summaries", "pieces", "mutants"]
+    names = ["adversaries", "users", "reasons", "larger", "summaries", "pieces", "mutants"]
     parser = argparse.ArgumentParser(description=__doc__, formatter_class=argparse.RawDescriptionHelpFormatter)
     parser.add_argument("tests", nargs="*", metavar="TEST", help=f"what is tried: {', '.join(names)}")
     parser.add_argument("--program", type=Path, default=PROGRAM, help="the launcher (default: java/out/atomic-java)")

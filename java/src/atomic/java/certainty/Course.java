@@ -92,6 +92,13 @@ final class Course {
             : events.stream().filter(each -> each.around(event).size() > outer);
     }
 
+    /** Whether an event is a look, and more than the first half of {@code n++}. */
+    boolean looks(Event event) {
+        int next = events.indexOf(event) + 1;
+        Event after = next < events.size() ? events.get(next) : event;
+        return !event.writes() && !(after.writes() && after.isSame(event) && after.branches().equals(event.branches()));
+    }
+
     /** Whether some change of a thing is made only if nobody came in between. */
     boolean compares(Object thing) {
         return events.stream().anyMatch(each -> each.compares() && each.thing().equals(thing));

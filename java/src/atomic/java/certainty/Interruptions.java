@@ -19,7 +19,8 @@ import java.util.Set;
  * The closed list of such pairs of events:
  * <ul>
  * <li>a look and a later change of the same, and the other one changes it too: check-then-act, and the lost update;</li>
- * <li>two changes, and the other one looks at both: a torn pair;</li>
+ * <li>two changes, and the other one looks at both: a torn pair; to count up is no look;</li>
+ * <li>a change of one thing and a later look at another, and the other one looks at the first and changes the second;</li>
  * <li>two looks, and the other one changes both: a torn look;</li>
  * <li>a look at one thing and a change of another, and the other method changes the one and touches the other.</li>
  * </ul>
@@ -71,7 +72,8 @@ public final class Interruptions {
         Event one = course.events().get(first);
         Event two = course.events().get(second);
         boolean tried = one.isSame(two) && course.compares(one.thing()) && (one.compares() || !one.writes());
-        return !tried && (one.writes() || course.events().subList(first + 1, second + 1).stream().noneMatch(each ->
+        boolean half = !one.writes() && !course.looks(one) && second != first + 1;
+        return !tried && !half && (one.writes() || course.events().subList(first + 1, second + 1).stream().noneMatch(each ->
             course.asksAgain(one, each)));
     }
 
@@ -80,7 +82,7 @@ public final class Interruptions {
         for (Method other : others) {
             Course course = course(other);
             boolean kept = around.stream().anyMatch(each -> course.taken().stream().anyMatch(each::keepsOut));
-            if (!kept && !course.isDark() && tells(course.events(), one, two)) {
+            if (!kept && !course.isDark() && tells(course, one, two)) {
                 return other;
             }
         }
@@ -88,12 +90,14 @@ public final class Interruptions {
     }
 
     /** Whether a method that does these events has a conflict with both. */
-    private static boolean tells(List<Event> events, Event one, Event two) {
+    private static boolean tells(Course course, Event one, Event two) {
+        List<Event> events = course.events();
         boolean found = one.finds() && !one.isSame(two);
         boolean apart = one.finds() && two.finds() && !one.asked().equals(two.asked());
         List<Event> firsts = events.stream().filter(each -> conflict(each, one)
-            && !(found && each.kind() == Touch.Kind.ADD)).toList();
-        List<Event> seconds = firsts.isEmpty() ? List.of() : events.stream().filter(each -> conflict(each, two)).toList();
+            && !(found && each.kind() == Touch.Kind.ADD) && !(one.writes() && !course.looks(each))).toList();
+        List<Event> seconds = firsts.isEmpty() ? List.of() : events.stream()
+            .filter(each -> conflict(each, two) && !(one.writes() && two.writes() && !course.looks(each))).toList();
         return firsts.stream().anyMatch(each -> seconds.stream().anyMatch(other ->
             each.meets(other) && !(apart && each == other) && !published(each, other, one, two)));
     }
