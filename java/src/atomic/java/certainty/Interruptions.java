@@ -35,6 +35,7 @@ public final class Interruptions {
     private final Callees callees;
     private final Set<Method> others;
     private final Map<Method, Course> courses = new HashMap<>();
+    private final Map<Object, Set<Method>> byThing = new HashMap<>();
 
     /** The methods of a program; {@code others} are those that other threads may call. */
     public Interruptions(Program program, Collection<Method> others) {
@@ -54,7 +55,8 @@ public final class Interruptions {
             for (int first = 0; first < second; first++) {
                 Event one = events.get(first);
                 Event two = events.get(second);
-                Method found = one.meets(two) && counts(course, first, second) ? between(one, two) : null;
+                Set<Method> touching = one.meets(two) ? touching(one, two) : Set.of();
+                Method found = !touching.isEmpty() && counts(course, first, second) ? between(one, two, touching) : null;
                 if (found != null) {
                     return found;
                 }
@@ -77,9 +79,20 @@ public final class Interruptions {
             course.asksAgain(one, each)));
     }
 
-    private Method between(Event one, Event two) {
+    /** The other methods that touch both. */
+    private Set<Method> touching(Event one, Event two) {
+        if (byThing.isEmpty()) {
+            others.forEach(other -> course(other).events().forEach(each ->
+                byThing.computeIfAbsent(each.thing(), key -> new LinkedHashSet<>()).add(other)));
+        }
+        Set<Method> both = new LinkedHashSet<>(byThing.getOrDefault(one.thing(), Set.of()));
+        both.retainAll(byThing.getOrDefault(two.thing(), Set.of()));
+        return both;
+    }
+
+    private Method between(Event one, Event two, Set<Method> touching) {
         List<Event.Hold> around = one.around(two);
-        for (Method other : others) {
+        for (Method other : touching) {
             Course course = course(other);
             boolean kept = around.stream().anyMatch(each -> course.taken().stream().anyMatch(each::keepsOut));
             if (!kept && !course.isDark() && tells(course, one, two)) {
