@@ -23,6 +23,7 @@ import java.util.stream.Stream;
  */
 final class Course {
     private static final int MOST_EVENTS = 160;
+    private static final int MOST_PARTS = 20_000;
     private static final int DEEPEST = 8;
 
     /**
@@ -46,6 +47,7 @@ final class Course {
     private boolean dark;
     private int numbers;
     private int inOthers;
+    private int parts;
 
     Course(Method method, Callees callees, Set<Method> others, Program program) {
         this.callees = callees;
@@ -105,7 +107,7 @@ final class Course {
     }
 
     private void part(Part part, int depth) {
-        if (events.size() >= MOST_EVENTS) {
+        if (events.size() >= MOST_EVENTS || ++parts > MOST_PARTS) {
             return;
         }
         if (part instanceof Part.Access access) {

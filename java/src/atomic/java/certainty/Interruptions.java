@@ -31,11 +31,16 @@ import java.util.Set;
  * takes a lock in no form that is known.
  */
 public final class Interruptions {
+    /** How often another method is held against a pair of events, at most: behind that no reason is seen. */
+    private static final int MOST_LOOKS = 100_000;
+    private static final int MOST_LOOKS_OF_ONE = 5_000;
+
     private final Program program;
     private final Callees callees;
     private final Set<Method> others;
     private final Map<Method, Course> courses = new HashMap<>();
     private final Map<Object, Set<Method>> byThing = new HashMap<>();
+    private int looks;
 
     /** The methods of a program; {@code others} are those that other threads may call. */
     public Interruptions(Program program, Collection<Method> others) {
@@ -51,8 +56,9 @@ public final class Interruptions {
     public Method witness(Method method) {
         Course course = course(method);
         List<Event> events = course.isDark() ? List.of() : course.events();
+        int most = Math.min(MOST_LOOKS, looks + MOST_LOOKS_OF_ONE);
         for (int second = 1; second < events.size(); second++) {
-            for (int first = 0; first < second; first++) {
+            for (int first = 0; first < second && looks < most; first++) {
                 Event one = events.get(first);
                 Event two = events.get(second);
                 Set<Method> touching = one.meets(two) ? touching(one, two) : Set.of();
@@ -93,6 +99,7 @@ public final class Interruptions {
     private Method between(Event one, Event two, Set<Method> touching) {
         List<Event.Hold> around = one.around(two);
         for (Method other : touching) {
+            looks++;
             Course course = course(other);
             boolean kept = around.stream().anyMatch(each -> course.taken().stream().anyMatch(each::keepsOut));
             if (!kept && !course.isDark() && tells(course, one, two)) {
