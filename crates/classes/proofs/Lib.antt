@@ -9,6 +9,7 @@ pub mod Parted
 mod Repeats
 mod Wholes
 mod Alone
+mod AlikeLemmas
 pub mod OwnLemmas
 pub mod Leasts
 pub mod FirstFaults

@@ -1,6 +1,6 @@
 //! Finds the first fault of a program's classes.
 
-ghost use Rattle.std.specs.Prelude.{◌≡◌, ◌⊎◌, ℕ, List, ◌++◌, ◌∷◌, [], None, map, IfOk, OnOk, OnErr, if◌then◌else◌};
+ghost use Rattle.std.specs.Prelude.{◌≡◌, ◌⊎◌, ℕ, true, List, ◌++◌, ◌∷◌, [], None, map, IfOk, OnOk, OnErr, if◌then◌else◌};
 ghost use Rattle.std.specs.List.{list_any};
 ghost use Rattle.syntax.specs.Views.{member_of, class_of, program_tree};
 ghost use Rattle.classes.specs.Names.{has_text, with_text, distinct};
@@ -8,11 +8,13 @@ ghost use Rattle.classes.specs.declared.fault.ClassFault.TheVariants as kind;
 ghost use Rattle.classes.specs.Members.{class_names, is_entry};
 ghost use Rattle.classes.specs.Lines.{all_members, members_at};
 ghost use Rattle.classes.specs.Lines as lines;
-ghost use Rattle.classes.specs.Faults.{twice_faults, missing_run, circle_faults, other_faults, class_faults, class_faults_from, is_main, missing_main, all_class_faults};
+ghost use Rattle.classes.specs.Alike.{AreAllAlike};
+ghost use Rattle.classes.specs.Faults.{twice_faults, override_faults, missing_run, circle_faults, other_faults, class_faults, class_faults_from, is_main, missing_main, all_class_faults};
 ghost use Rattle.classes.specs.Families.{members_along, first_places, tree_of, IsFamily, rows_data, class_headings, AreHeadings};
 ghost use Rattle.classes.specs.Own.{all_own_names};
 ghost use Rattle.classes.specs.Noted.{noted};
 
+use crate::alike::are_alike;
 use crate::constructors::{has_finals, note_constructors, note_missing_constructor};
 use crate::family::{Family, reversed};
 use crate::fault::ClassFault;
@@ -95,13 +97,32 @@ fn note_circle(class: &Name, is_on_circle: bool, first: Option<ClassFault>) -> O
     }
 }
 
-/// What the faults of a class are found by: memory, which class extends which, and the headings of the methods of each
-/// class where one extends another.
+/// What the faults of a class are found by: memory, which class extends which, the headings of the methods of each class
+/// where one extends another, and whether the nearest ones show that none overrides one badly.
 #[derive(Clone, Copy)]
 struct Inheritance<'f, 'p, 'a> {
     alloc: Global,
     family: &'f Family<'p, 'a>,
     headings: &'f [Vec<Heading<'p, 'a>>],
+    are_alike: bool,
+}
+
+/// The faults of methods that override one that they may not override. Where all are alike with the nearest, there are none.
+fn note_bad_overrides(
+    inheritance: &Inheritance,
+    line: &[usize],
+    number: usize,
+    first: Option<ClassFault>,
+) -> Option<ClassFault>
+    requires alike { inheritance.now.are_alike ≡ true → AreAllAlike (tree_of inheritance.now.family.now) (class_headings (rows_data inheritance.now.headings.now)) }
+    requires line { line.now ≡ lines.ancestor_classes (tree_of inheritance.now.family.now) number }
+    ensures { let methods = class_headings (rows_data inheritance.now.headings.now) in
+        result ≡ noted first (override_faults methods line.now (methods number)) }
+{
+    if inheritance.are_alike {
+        return first;
+    }
+    note_overrides(inheritance.headings, line, number, first)
 }
 
 /// The faults of a class but for the names of its fields. It inherits from the classes of this line, and it has the members
@@ -117,6 +138,7 @@ fn note_others(
 ) -> Result<Option<ClassFault>, NoMemory>
     requires family { IsFamily inheritance.now.family.now }
     requires rows { AreHeadings (tree_of inheritance.now.family.now) (class_headings (rows_data inheritance.now.headings.now)) }
+    requires alike { inheritance.now.are_alike ≡ true → AreAllAlike (tree_of inheritance.now.family.now) (class_headings (rows_data inheritance.now.headings.now)) }
     requires own { members_at (tree_of inheritance.now.family.now) number ≡ map member_of class.now.members.items }
     requires line { line.now ≡ lines.ancestor_classes (tree_of inheritance.now.family.now) number }
     requires order { members_along (tree_of inheritance.now.family.now) order.now ≡ all_members (tree_of inheritance.now.family.now) number }
@@ -134,7 +156,7 @@ fn note_others(
     let found = note_missing_run(&class.name, family.counts(number), classes, order, found);
     let found = note_excess(field_at(classes, order, MOST_FIELDS), found);
     let found = note_circle(&class.name, family.is_on_circle(number), found);
-    Ok(note_overrides(inheritance.headings, line, number, found))
+    Ok(note_bad_overrides(inheritance, line, number, found))
 }
 
 /// The faults of a class that extends none.
@@ -146,6 +168,7 @@ fn note_alone<'p, 'a>(
 ) -> Result<Option<ClassFault>, NoMemory>
     requires family { IsFamily inheritance.now.family.now }
     requires rows { AreHeadings (tree_of inheritance.now.family.now) (class_headings (rows_data inheritance.now.headings.now)) }
+    requires alike { inheritance.now.are_alike ≡ true → AreAllAlike (tree_of inheritance.now.family.now) (class_headings (rows_data inheritance.now.headings.now)) }
     requires own { members_at (tree_of inheritance.now.family.now) number ≡ map member_of class.now.members.items }
     requires alone { lines.above (tree_of inheritance.now.family.now) number ≡ None }
     ensures { IfOk result (λ f. f ≡ noted first (class_faults (tree_of inheritance.now.family.now) number (class_of class.now))) }
@@ -171,6 +194,7 @@ fn note_class<'p, 'a>(
 ) -> Result<Option<ClassFault>, NoMemory>
     requires family { IsFamily inheritance.now.family.now }
     requires rows { AreHeadings (tree_of inheritance.now.family.now) (class_headings (rows_data inheritance.now.headings.now)) }
+    requires alike { inheritance.now.are_alike ≡ true → AreAllAlike (tree_of inheritance.now.family.now) (class_headings (rows_data inheritance.now.headings.now)) }
     requires own { members_at (tree_of inheritance.now.family.now) number ≡ map member_of class.now.members.items }
     ensures { IfOk result (λ f. f ≡ noted first (class_faults (tree_of inheritance.now.family.now) number (class_of class.now))) }
 {
@@ -189,6 +213,7 @@ fn note_heir<'p, 'a>(
 ) -> Result<Option<ClassFault>, NoMemory>
     requires family { IsFamily inheritance.now.family.now }
     requires rows { AreHeadings (tree_of inheritance.now.family.now) (class_headings (rows_data inheritance.now.headings.now)) }
+    requires alike { inheritance.now.are_alike ≡ true → AreAllAlike (tree_of inheritance.now.family.now) (class_headings (rows_data inheritance.now.headings.now)) }
     requires own { members_at (tree_of inheritance.now.family.now) number ≡ map member_of class.now.members.items }
     ensures { IfOk result (λ f. f ≡ noted first (class_faults (tree_of inheritance.now.family.now) number (class_of class.now))) }
 {
@@ -220,6 +245,7 @@ fn note_classes(
 ) -> Result<Option<ClassFault>, NoMemory>
     requires family { IsFamily inheritance.now.family.now }
     requires rows { AreHeadings (tree_of inheritance.now.family.now) (class_headings (rows_data inheritance.now.headings.now)) }
+    requires alike { inheritance.now.are_alike ≡ true → AreAllAlike (tree_of inheritance.now.family.now) (class_headings (rows_data inheritance.now.headings.now)) }
     ensures { IfOk result (λ f. f ≡ noted first (class_faults_from (tree_of inheritance.now.family.now) 0 (tree_of inheritance.now.family.now))) }
 {
     let mut found = first;
@@ -330,6 +356,7 @@ fn note_all<'p, 'a>(
         alloc,
         family: &family,
         headings: headings.as_slice(),
+        are_alike: are_alike(&family, headings.as_slice()),
     };
     let found = note_classes(&inheritance, first)?;
     note_missing_main(alloc, &family, found)

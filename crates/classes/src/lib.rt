@@ -3,6 +3,7 @@
 #![tactic(auto)]
 
 mod above;
+mod alike;
 mod build;
 mod check;
 mod constructors;

@@ -247,7 +247,7 @@ fn is_same_result(one: &Option<TypeName>, other: &Option<TypeName>) -> bool
 }
 
 /// Whether methods have the same parameters, result, `atomic` and locks.
-fn is_same_signature(one: &Heading, other: &Heading) -> bool
+pub(crate) fn is_same_signature(one: &Heading, other: &Heading) -> bool
     ensures { result ≡ is_same_signature (heading_data one.now).signature (heading_data other.now).signature }
 {
     are_alike(one.params, other.params)

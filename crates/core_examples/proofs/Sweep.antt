@@ -1,6 +1,6 @@
 -- Relevant sets by computation: rows of paths in which nothing is missing that the rules give, and each of which is near.
 use Rattle.std.proofs.Common.{◌≡◌, ℕ, zero, suc, ◌+◌, Bool, true, false, ◌==◌, ◌&&◌, List, [], ◌∷◌, length, Some, None, refl, sym, subst, arith, inl, inr}
-use Rattle.std.specs.Prelude.{Option, Contains, Ok, slice_get, nat_le, if◌then◌else◌}
+use Rattle.std.specs.Prelude.{Option, Contains, slice_get, nat_le, if◌then◌else◌}
 use Rattle.std.specs.List.{list_all, AllByRecursion}
 use Rattle.std.specs.List.Sorted.{IsStrictlySortedBy}
 use Rattle.std.specs.declared.cmp.Ordering.{Ordering}
@@ -17,12 +17,11 @@ use Rattle.core_program.specs.Dispatch.{Overrides}
 use Rattle.core_program.specs.Locks.{path_of}
 use Rattle.rules.specs.Guards.{guard_of, guard_path}
 use Rattle.rules.specs.Mentions.{Mention, Accesses, Calls, Locks, Names, mentions, paths_of}
-use Rattle.rules.specs.Clauses.{program_clauses}
 use Rattle.rules.specs.Search.{row_at}
 use Rattle.rules.specs.Limits.{parted_from}
 use Rattle.rules.specs.Near.{begins_in, Near, required, locked, guarded, called, overriding, named, AreRelevant}
-use Rattle.rules.proofs.Reaching.{partner_in, class_with, near_from_reached, reached_from_near}
-use Rattle.rules.proofs.LimitLemmas.{sets_ok}
+use Rattle.rules.proofs.Reaching.{partner_in, class_with}
+use Rattle.rules.proofs.LimitLemmas.{relevant_sets}
 
 all_paths : (f : PathData → Bool) (ps : List PathData) → list_all f ps ≡ true → (q : PathData) → has_path ps q ≡ true → f q ≡ true
 all_paths f [] all q has = absurd (false≢true has)
@@ -175,8 +174,7 @@ module _ (P : Program) where
 
   -- where nothing is missing from these rows and each path of them is near, they are the relevant sets
   pub relevant_rows : (rows : List (List PathData)) → has_all rows ≡ true → list_all ascends rows ≡ true → AreNear 0 rows → AreRelevant P (parted_from rows 0 P.methods)
-  relevant_rows rows all rises near = sets_ok {E = Unit {0}} (Ok (parted_from rows 0 P.methods)) P (program_clauses P) (program_clauses P) rows rows refl refl
-      (record {
-        ascends = λ m. sorted (row_at rows m) (row_ascends rows rises m);
-        exact = λ m p. ((λ has. reached_from_near P m p (subst (λ n. Near P n p) (let e : 0 + m ≡ m = omega arith in e) (row_near 0 rows near m p has))), (λ r. all_near rows all m p (near_from_reached P m p r)));
-      }) refl refl
+  relevant_rows rows all rises near = relevant_sets P rows
+      (λ m. sorted (row_at rows m) (row_ascends rows rises m))
+      (λ m p. ((λ has. subst (λ n. Near P n p) (let e : 0 + m ≡ m = omega arith in e) (row_near 0 rows near m p has)), all_near rows all m p))
+      (parted_from rows 0 P.methods) refl

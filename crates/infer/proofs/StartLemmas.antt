@@ -35,7 +35,7 @@ module _ (P : Program) (sets : List MethodPaths) (start : List (List Basic)) (co
   pub least_count : (tables : List (List Basic)) → fix.IsAbove (table_numbers tables) (table_numbers start) → length tables ≡ length P.methods
   least_count tables up = sym (length_numbers tables) ∙ length_above (table_numbers tables) (table_numbers start) up ∙ length_numbers start ∙ start_length
 
-  pub least_is : (overs : List (List ℕ)) → IsTyped P → AreRelevant P sets → (IsTyped P → AreNearest P overs) → (tables : List (List Basic)) → fix.AreAllMet (is_met P (overs_at overs) (rel_of sets)) (table_numbers tables)
+  pub least_is : (overs : List (List ℕ)) → IsTyped P → AreRelevant P sets → AreNearest P overs → (tables : List (List Basic)) → fix.AreAllMet (is_met P (overs_at overs) (rel_of sets)) (table_numbers tables)
       → fix.IsBetween (is_met P (overs_at overs) (rel_of sets)) (table_numbers start) (table_numbers tables) → IsLeast P (rel_of sets) (table_assignment (rel_of sets) tables)
-  least_is overs typed relevant nearest tables closed between = is_least P typed overs (nearest typed) (rel_of sets) (λ m method is. required_in_rel P sets relevant typed m method is) tables closed
+  least_is overs typed relevant nearest tables closed between = is_least P typed overs nearest (rel_of sets) (λ m method is. required_in_rel P sets relevant typed m method is) tables closed
       (subst (λ ts. fix.IsBetween (is_met P (overs_at overs) (rel_of sets)) (table_numbers ts) (table_numbers tables)) start_at between)

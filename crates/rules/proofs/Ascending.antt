@@ -1,11 +1,12 @@
 -- Pairs whose first numbers ascend: each is the one that is found by its first number.
-use Rattle.std.proofs.Common.{◌≡◌, ℕ, zero, suc, true, ◌==◌, ◌<◌, List, [], ◌∷◌, Some, refl, subst, ◌∙◌, arith}
+use Rattle.std.proofs.Common.{◌≡◌, ℕ, zero, suc, ◌+◌, Bool, true, ◌==◌, ◌<◌, ◌⊎◌, inl, inr, List, [], ◌∷◌, ◌++◌, length, length-append, Some, refl, sym, ap, subst, ◌∙◌, arith}
 use Rattle.std.specs.Prelude.{nat_lt, slice_get}
 use Rattle.std.proofs.lemmas.Bool.{and_parts, cond-true, cond-false, eqb-true, eq-eqb, ltb-true, ne_eqb}
 use Rattle.std.proofs.lemmas.Option.{none-some, same_Some}
 use Rattle.core_program.specs.Core.{Program}
 use Rattle.core_program.specs.Dispatch.{partner, target_of, targets_in}
 use Rattle.rules.specs.Clauses.{ascend}
+use Rattle.rules.specs.Pairs.{DoAscend}
 
 less_later : (p : ℕ × ℕ) (qs : List (ℕ × ℕ)) (k : ℕ) (q : ℕ × ℕ) → ascend (p ∷ qs) ≡ true → slice_get qs k ≡ Some q → p.0 < q.0
 less_later p [] k q a at = absurd (none-some q at)
@@ -35,3 +36,30 @@ known_target P class ps k p is a at = subst (λ qs. partner qs p.0 ≡ Some p.1)
 -- the pair at a place, where it is a pair of the method
 pub found_partner : (ps : List (ℕ × ℕ)) (k : ℕ) (p : ℕ × ℕ) (m : ℕ) → slice_get ps k ≡ Some p → (p.0 == m) ≡ true → ascend ps ≡ true → partner ps m ≡ Some p.1
 found_partner ps k p m at same a = subst (λ n. partner ps n ≡ Some p.1) (eqb-true p.0 m same) (own_partner ps k p a at)
+
+-- which classes are known to have pairs that ascend
+
+flag_at : (flags : List Bool) (b : Bool) (c : ℕ) → slice_get (flags ++ b ∷ []) c ≡ Some true → (slice_get flags c ≡ Some true) ⊎ ((c ≡ length flags) × (b ≡ true))
+flag_at [] b zero e = inr (refl, same_Some b true e)
+flag_at [] b (suc c) e = absurd (none-some true e)
+flag_at (f ∷ flags) b zero e = inl e
+flag_at (f ∷ flags) b (suc c) e = elim (flag_at flags b c e) as (λ _. (slice_get flags c ≡ Some true) ⊎ ((suc c ≡ suc (length flags)) × (b ≡ true))) [
+  | inl old ↦ inl old
+  | inr last ↦ inr (ap suc last.0, last.1)
+]
+
+-- none yet
+pub none_ascends : (P : Program) (flags : List Bool) → flags ≡ [] → (length flags ≡ 0) × DoAscend P flags
+none_ascends P flags none = subst (λ fs. (length fs ≡ 0) × DoAscend P fs) (sym none) (refl, λ c e. absurd (none-some true e))
+
+pub one_longer : (flags new : List Bool) (b : Bool) (place : ℕ) → new ≡ flags ++ b ∷ [] → length flags ≡ place → length new ≡ place + 1
+one_longer flags new b place pushed long = ap length pushed ∙ length-append flags (b ∷ []) ∙ ap (λ n. n + 1) long
+
+-- one class more
+pub one_more_ascends : (P : Program) (flags new : List Bool) (b : Bool) (place class : ℕ) (pairs : List (ℕ × ℕ)) → new ≡ flags ++ b ∷ [] → length flags ≡ place → class ≡ place
+    → pairs ≡ targets_in (slice_get P.classes class) → (b ≡ true → ascend pairs ≡ true) → DoAscend P flags → DoAscend P new
+one_more_ascends P flags new b place class pairs pushed long is are sound so_far c e =
+    elim (flag_at flags b c (subst (λ fs. slice_get fs c ≡ Some true) pushed e)) as (λ _. ascend (targets_in (slice_get P.classes c)) ≡ true) [
+      | inl old ↦ so_far c old
+      | inr last ↦ subst (λ n. ascend (targets_in (slice_get P.classes n)) ≡ true) (is ∙ sym long ∙ sym last.0) (subst (λ ps. ascend ps ≡ true) are (sound last.1))
+    ]

@@ -1,21 +1,17 @@
 -- The rows of nearest methods have methods that override alone, and lead to all of them.
-use Rattle.std.proofs.Common.{◌≡◌, ℕ, zero, suc, ◌+◌, ◌-◌, Bool, true, false, not, ◌==◌, ◌&&◌, ◌<◌, ◌≤◌, ◌⊎◌, inl, inr, List, [], ◌∷◌, ◌++◌, length, Some, None, refl, sym, ap, subst, ◌∙◌, arith, append-nil, append_assoc}
-use Rattle.std.specs.Prelude.{Option, IfSome, Contains, slice_get, if◌then◌else◌}
-use Rattle.std.specs.Option.{option_and_then}
+use Rattle.std.proofs.Common.{◌≡◌, ℕ, zero, suc, ◌+◌, ◌-◌, Bool, true, false, not, ◌==◌, ◌&&◌, ◌<◌, ◌≤◌, inl, inr, List, [], ◌∷◌, ◌++◌, length, Some, None, refl, sym, ap, subst, ◌∙◌, arith, append-nil, append_assoc}
+use Rattle.std.specs.Prelude.{Option, Contains, slice_get, nat_lt, if◌then◌else◌}
 use Rattle.std.proofs.lemmas.List.Elements.{Contains-append_left, Contains-append_right, Contains-append_cases}
-use Rattle.std.proofs.lemmas.Bool.{eqb-true, eqb-false, eq-eqb, ne_eqb, and_parts, and_from, not_from_false}
-use Rattle.std.proofs.lemmas.Option.{none-some, slice_get_within}
+use Rattle.std.proofs.lemmas.Bool.{eqb-true, eqb-false, eq-eqb, ltb-true, and_parts, and_from, not-true, not_from_false}
+use Rattle.std.proofs.lemmas.Option.{slice_get_within}
 use Rattle.base.proofs.Lists.{contains_cases}
-use Rattle.base.specs.Ancestors.{steps_up, IsAncestor}
-use Rattle.base.proofs.Going.{going_ends}
-use Rattle.core_program.specs.Core.{Program, Class}
-use Rattle.core_program.specs.Dispatch.{above_in, above_of, partner, targets_in, target_of, inherited_target, IsOwn, Overrides}
-use Rattle.core_program.specs.Typed.{own, overridden, inherited, IsTyped}
-use Rattle.rules.specs.Clauses.{method_class, is_this_number, is_over}
+use Rattle.core_program.specs.Core.{Program}
+use Rattle.core_program.specs.Dispatch.{above_of, partner, targets_in, target_of, Overrides}
+use Rattle.rules.specs.Clauses.{method_class, is_this_number}
 use Rattle.rules.specs.Search.{row_at}
-use Rattle.rules.proofs.Reaching.{contains_none, contains_one, contains_here, number_is, overrides_of, partner_in, class_with}
+use Rattle.rules.proofs.Reaching.{contains_none, contains_one, contains_here, number_is, method_of, overrides_of, over_true, partner_in, class_with}
 use Rattle.rules.specs.Nearest.{LeadTo, near, further, AreNearest}
-use Rattle.rules.specs.Pairs.{targets_above, overrides_in, is_between, is_nearest, pair_nearest, pairs_nearest, class_nearest, nearest_from}
+use Rattle.rules.specs.Pairs.{targets_above, overrides_in, does_run, does_override, pairs_count, is_between, is_nearest, pair_nearest, pairs_nearest, class_nearest, nearest_from}
 
 -- the pairs of a class, and of the one above it
 abbrev owns : Program → ℕ → List (ℕ × ℕ)
@@ -32,7 +28,7 @@ pair_sound P c p m over has = by_test (is_nearest P c (owns P c) (aboves P c) p 
     by_test : (b : Bool) → (is_nearest P c (owns P c) (aboves P c) p && m == p.0) ≡ b → Contains (if b then p.1 ∷ [] else []) over → Overrides P over m
     by_test true e h =
         let both = and_parts (is_nearest P c (owns P c) (aboves P c) p) (m == p.0) e in
-        let first = and_parts (overrides_in P c (owns P c) p) (not (is_between (owns P c) (aboves P c) p.0 p.1 (partner (aboves P c) p.0))) both.0 in
+        let first = and_parts (overrides_in P c (owns P c) p) (not (is_between P (owns P c) p.0 p.1 (partner (aboves P c) p.0))) both.0 in
         subst (λ n. Overrides P n m) (contains_one p.1 over h) (subst (Overrides P p.1) (sym (eqb-true m p.0 both.1)) (overrides_of P c p first.0))
     by_test false e h = contains_none over h
 
@@ -72,133 +68,88 @@ in_rows P c (suc count) (suc k) m over below has =
 
 -- ---- what stands between
 
-record Between (ours above : List (ℕ × ℕ)) (m over : ℕ) (found : Option ℕ) : Type 0 where
+record Between (P : Program) (ours : List (ℕ × ℕ)) (m over : ℕ) : Type 0 where
   middle : ℕ
-  is : found ≡ Some middle
-  after : (middle == m) ≡ false
   before : (middle == over) ≡ false
+  overrides : Overrides P middle m
   runs : partner ours middle ≡ Some over
-  itself : partner above middle ≡ Some middle
+  more : pairs_count P m < pairs_count P middle
+  fewer : pairs_count P middle < pairs_count P over
 
-not_true : (b : Bool) → not b ≡ true → b ≡ false
-not_true true e = absurd (let k : false ≡ true = e in cc)
-not_true false e = refl
+-- the class that runs a method for another
+running : (P : Program) (class : Option ℕ) (m over : ℕ) → does_run P class m over ≡ true → (c : ℕ) × (class ≡ Some c) × (target_of P c m ≡ Some over)
+running P None m over e = absurd (let k : false ≡ true = e in cc)
+running P (Some c) m over e = (c, refl, number_is (target_of P c m) over e)
 
-between_parts : (ours above : List (ℕ × ℕ)) (m over : ℕ) (found : Option ℕ) → is_between ours above m over found ≡ true → Between ours above m over found
-between_parts ours above m over None e = absurd (let k : false ≡ true = e in cc)
-between_parts ours above m over (Some middle) e =
-    let first = and_parts (not (middle == m)) (not (middle == over) && (is_this_number (partner ours middle) over && is_this_number (partner above middle) middle)) e in
-    let second = and_parts (not (middle == over)) (is_this_number (partner ours middle) over && is_this_number (partner above middle) middle) first.1 in
-    let third = and_parts (is_this_number (partner ours middle) over) (is_this_number (partner above middle) middle) second.1 in
+override_of : (P : Program) (over m : ℕ) → does_override P over m ≡ true → Overrides P over m
+override_of P over m e =
+    let both = and_parts (not (over == m)) (does_run P (method_class (slice_get P.methods over)) m over) e in
+    let at = running P (method_class (slice_get P.methods over)) m over both.1 in
+    let there = method_of (slice_get P.methods over) at.0 at.1 in
     record {
-      middle = middle;
-      is = refl;
-      after = not_true (middle == m) first.0;
-      before = not_true (middle == over) second.0;
-      runs = number_is (partner ours middle) over third.0;
-      itself = number_is (partner above middle) middle third.1;
+      differs = λ same. let t : true ≡ false = sym (eq-eqb over m same) ∙ not-true (over == m) both.0 in cc;
+      method = there.0;
+      is = there.1;
+      runs = ap (λ d. target_of P d m) there.2 ∙ at.2;
     }
 
--- nothing stands between what the class above runs for itself and what overrides it
-none_between : (ours above : List (ℕ × ℕ)) (t over : ℕ) → partner above t ≡ Some t → is_between ours above t over (partner above t) ≡ false
-none_between ours above t over itself =
-    ap (is_between ours above t over) itself ∙ ap (λ b. not b && (not (t == over) && (is_this_number (partner ours t) over && is_this_number (partner above t) t))) (eq-eqb t t refl)
-
-above_with : (P : Program) (a : Option ℕ) (m t : ℕ) → partner (targets_above P a) m ≡ Some t → (d : ℕ) × (a ≡ Some d) × (target_of P d m ≡ Some t)
-above_with P None m t e = absurd (none-some t e)
-above_with P (Some d) m t e = (d, refl, e)
+between_parts : (P : Program) (ours : List (ℕ × ℕ)) (m over : ℕ) (found : Option ℕ) → is_between P ours m over found ≡ true → Between P ours m over
+between_parts P ours m over None e = absurd (let k : false ≡ true = e in cc)
+between_parts P ours m over (Some t) e =
+    let ascends = nat_lt (pairs_count P m) (pairs_count P t) && nat_lt (pairs_count P t) (pairs_count P over) in
+    let first = and_parts (not (t == over)) (does_override P t m && (is_this_number (partner ours t) over && ascends)) e in
+    let second = and_parts (does_override P t m) (is_this_number (partner ours t) over && ascends) first.1 in
+    let third = and_parts (is_this_number (partner ours t) over) ascends second.1 in
+    let fourth = and_parts (nat_lt (pairs_count P m) (pairs_count P t)) (nat_lt (pairs_count P t) (pairs_count P over)) third.1 in
+    record {
+      middle = t;
+      before = not-true (t == over) first.0;
+      overrides = override_of P t m second.0;
+      runs = number_is (partner ours t) over third.0;
+      more = ltb-true (pairs_count P m) (pairs_count P t) fourth.0;
+      fewer = ltb-true (pairs_count P t) (pairs_count P over) fourth.1;
+    }
 
 -- ---- the rows lead to what overrides
 
-module _ (P : Program) (rows : List (List ℕ)) (are : (m : ℕ) → row_at rows m ≡ nearest_from P 0 (length P.classes) m) where
-  -- a method that is the class's own and runs for another overrides it there
-  over_at : (c m over : ℕ) → IsOwn P c over → target_of P c m ≡ Some over → (over == m) ≡ false → is_over P c (m, over) ≡ true
-  over_at c m over (method, is, of_class) runs differs =
-      and_from (not (over == m)) (is_this_number (method_class (slice_get P.methods over)) c && is_this_number (target_of P c m) over) (not_from_false (over == m) differs)
-      (and_from (is_this_number (method_class (slice_get P.methods over)) c) (is_this_number (target_of P c m) over)
-      (ap (λ x. is_this_number (method_class x) c) is ∙ eq-eqb method.class c of_class)
-      (ap (λ x. is_this_number x over) runs ∙ eq-eqb over over refl))
+lead_on : (rows : List (List ℕ)) (m middle over : ℕ) → LeadTo rows m middle → LeadTo rows middle over → LeadTo rows m over
+lead_on rows m middle over first (near has) = further middle first has
+lead_on rows m middle over first (further last lead has) = further last (lead_on rows m middle last first lead) has
 
-  in_row : (c m over : ℕ) → is_over P c (m, over) ≡ true → target_of P c m ≡ Some over → is_between (owns P c) (aboves P c) m over (partner (aboves P c) m) ≡ false → Contains (row_at rows m) over
-  in_row c m over is runs free =
-      let there = class_with (slice_get P.classes c) m over runs in
+module _ (P : Program) (rows : List (List ℕ)) (are : (m : ℕ) → row_at rows m ≡ nearest_from P 0 (length P.classes) m) where
+  -- what overrides and has nothing between stands in the row
+  in_row : (m over : ℕ) (o : Overrides P over m) → is_between P (owns P o.method.class) m over (partner (aboves P o.method.class) m) ≡ false → Contains (row_at rows m) over
+  in_row m over o free =
+      let c = o.method.class in
+      let there = class_with (slice_get P.classes c) m over o.runs in
       let e0 : c ≡ 0 + c = omega arith in
+      let between = is_between P (owns P c) m over (partner (aboves P c) m) in
       subst (λ row. Contains row over) (sym (are m))
       (in_rows P 0 (length P.classes) c m over (slice_get_within P.classes c there.0 there.1)
       (subst (λ n. Contains (class_nearest P n m) over) e0
       (in_pairs P c (owns P c) (aboves P c) (owns P c) m over
-      (and_from (overrides_in P c (owns P c) (m, over)) (not (is_between (owns P c) (aboves P c) m over (partner (aboves P c) m))) is (not_from_false (is_between (owns P c) (aboves P c) m over (partner (aboves P c) m)) free))
-      (partner_in (owns P c) m over runs))))
+      (and_from (overrides_in P c (owns P c) (m, over)) (not between) (over_true P over m o) (not_from_false between free))
+      (partner_in (owns P c) m over o.runs))))
 
-  -- a class's own method that overrides another, where the rows lead to what the class above runs for that
-  by_class : (c m over : ℕ) → IsOwn P c over → target_of P c m ≡ Some over → (over == m) ≡ false
-      → ((d t : ℕ) → above_of P c ≡ Some d → target_of P d m ≡ Some t → (t ≡ m) ⊎ LeadTo rows m t) → LeadTo rows m over
-  by_class c m over mine runs differs higher = by_test (is_between (owns P c) (aboves P c) m over (partner (aboves P c) m)) refl
-    where
-      by_test : (b : Bool) → is_between (owns P c) (aboves P c) m over (partner (aboves P c) m) ≡ b → LeadTo rows m over
-      by_test false free = near (in_row c m over (over_at c m over mine runs differs) runs free)
-      by_test true e =
-          let b = between_parts (owns P c) (aboves P c) m over (partner (aboves P c) m) e in
-          let t = b.middle in
-          let d = above_with P (above_of P c) m t b.is in
-          elim (higher d.0 t d.1 d.2) as (λ _. LeadTo rows m over) [
-            | inl same ↦ absurd (eqb-false t m b.after same)
-            | inr lead ↦ further t lead
-                (in_row c t over (over_at c t over mine b.runs (ne_eqb over t (λ same. eqb-false t over b.before (sym same)))) b.runs
-                (none_between (owns P c) (aboves P c) t over b.itself))
-          ]
+  by_between : (m over : ℕ) (o : Overrides P over m) (b : Bool) → is_between P (owns P o.method.class) m over (partner (aboves P o.method.class) m) ≡ b
+      → ((t : ℕ) → Overrides P t m → Overrides P over t → pairs_count P m < pairs_count P t → pairs_count P t < pairs_count P over → LeadTo rows m over) → LeadTo rows m over
+  by_between m over o false free through = near (in_row m over o free)
+  by_between m over o true e through =
+      let b = between_parts P (owns P o.method.class) m over (partner (aboves P o.method.class) m) e in
+      through b.middle b.overrides
+      (record { differs = λ same. eqb-false b.middle over b.before (sym same); method = o.method; is = o.is; runs = b.runs }) b.more b.fewer
 
-  module _ (typed : IsTyped P) where
-    above_is : (c : ℕ) (class : Class) → slice_get P.classes c ≡ Some class → above_of P c ≡ class.above
-    above_is c class there = ap above_in there
+  -- by how many more pairs the class of the overriding method has
+  lead_below : (n m over : ℕ) → Overrides P over m → pairs_count P over < pairs_count P m + n → LeadTo rows m over
+  lead_below zero m over o below = by_between m over o _ refl (λ t first second more fewer. absurd (omega (arith, below, more, fewer)))
+  lead_below (suc n) m over o below = by_between m over o _ refl (λ t first second more fewer.
+      lead_on rows m t over (lead_below n m t first (omega (arith, below, more, fewer))) (lead_below n t over second (omega (arith, below, more, fewer))))
 
-    -- of a class from which so many steps up lead nowhere
-    lead_in : (n c m over : ℕ) → steps_up (above_of P) n c ≡ None → target_of P c m ≡ Some over → (over ≡ m) ⊎ LeadTo rows m over
-    lead_in zero c m over ends runs = absurd (none-some c (sym ends))
-    lead_in (suc n) c m over ends runs = in_class (slice_get P.classes c) refl (λ d t above goes. lead_in n d m t (sym (ap (λ o. option_and_then (λ x. steps_up (above_of P) n x) o) above) ∙ ends) goes)
-      where
-        in_class : (o : Option Class) → slice_get P.classes c ≡ o → ((d t : ℕ) → above_of P c ≡ Some d → target_of P d m ≡ Some t → (t ≡ m) ⊎ LeadTo rows m t) → (over ≡ m) ⊎ LeadTo rows m over
-        in_class None none higher = absurd (none-some over (sym (ap (λ x. partner (targets_in x) m) none) ∙ runs))
-        in_class (Some class) there higher = elim ((typed.classes c class there).targets.each m over (sym (ap (λ x. partner (targets_in x) m) there) ∙ runs)) [
-          | own mine same ↦ inl same
-          | overridden some mine ↦ by_same (over == m) refl mine
-          | inherited from ↦ from_above class.above refl from
-        ]
-          where
-            by_same : (b : Bool) → (over == m) ≡ b → IsOwn P c over → (over ≡ m) ⊎ LeadTo rows m over
-            by_same true e mine = inl (eqb-true over m e)
-            by_same false e mine = inr (by_class c m over mine runs e higher)
-
-            from_above : (a : Option ℕ) → class.above ≡ a → inherited_target P a m ≡ Some over → (over ≡ m) ⊎ LeadTo rows m over
-            from_above None is e = absurd (none-some over e)
-            from_above (Some d) is e = higher d over (above_is c class there ∙ is) e
-
-    above_below : (c d : ℕ) → above_of P c ≡ Some d → d < length P.classes
-    above_below c d is = in_class (slice_get P.classes c) refl is
-      where
-        in_class : (o : Option Class) → slice_get P.classes c ≡ o → above_in (slice_get P.classes c) ≡ Some d → d < length P.classes
-        in_class None none e = absurd (none-some d (sym (ap above_in none) ∙ e))
-        in_class (Some class) there e = subst (λ x. IfSome x (λ d. d < length P.classes)) (sym (ap above_in there) ∙ e) (typed.classes c class there).above
-
-    apart : (d : ℕ) (o : Option Class) → slice_get P.classes d ≡ o → IsAncestor (above_of P) d d → ⊥
-    apart d None none (k, is) = none-some d (sym (ap (λ o. option_and_then (λ x. steps_up (above_of P) k x) o) (ap above_in none)) ∙ is)
-    apart d (Some class) there round = (typed.classes d class there).apart round
-
-    lead_to : (m over : ℕ) → Overrides P over m → LeadTo rows m over
-    lead_to m over o =
-        let c = o.method.class in
-        let there = class_with (slice_get P.classes c) m over o.runs in
-        elim (lead_in (length P.classes) c m over
-        (going_ends (above_of P) (length P.classes) above_below (λ d round. apart d (slice_get P.classes d) refl round) c (slice_get_within P.classes c there.0 there.1)) o.runs) as (λ _. LeadTo rows m over) [
-          | inl same ↦ absurd (o.differs same)
-          | inr lead ↦ lead
-        ]
-
-    pub are_nearest : AreNearest P rows
-    are_nearest = record {
-      sound = λ m over has. rows_sound P 0 (length P.classes) m over (subst (λ row. Contains row over) (are m) has);
-      lead = lead_to;
-    }
+  pub are_nearest : AreNearest P rows
+  are_nearest = record {
+    sound = λ m over has. rows_sound P 0 (length P.classes) m over (subst (λ row. Contains row over) (are m) has);
+    lead = λ m over o. lead_below (suc (pairs_count P over)) m over o (omega arith);
+  }
 
 -- ---- the rows so far
 
@@ -216,7 +167,7 @@ rows_more P rows longer place class count below is added so_far m =
 
 -- where none is left
 pub rows_all : (P : Program) (rows : List (List ℕ)) (place count : ℕ) → count ≤ place → count ≡ length P.classes
-    → ((m : ℕ) → row_at rows m ++ nearest_from P place (count - place) m ≡ nearest_from P 0 count m) → IsTyped P → AreNearest P rows
-rows_all P rows place count past all so_far typed =
+    → ((m : ℕ) → row_at rows m ++ nearest_from P place (count - place) m ≡ nearest_from P 0 count m) → AreNearest P rows
+rows_all P rows place count past all so_far =
     let left : count - place ≡ 0 = omega (arith, past) in
-    are_nearest P rows (λ m. sym (append-nil (row_at rows m)) ∙ ap (λ n. row_at rows m ++ nearest_from P place n m) (sym left) ∙ so_far m ∙ ap (λ n. nearest_from P 0 n m) all) typed
+    are_nearest P rows (λ m. sym (append-nil (row_at rows m)) ∙ ap (λ n. row_at rows m ++ nearest_from P place n m) (sym left) ∙ so_far m ∙ ap (λ n. nearest_from P 0 n m) all)

@@ -17,6 +17,8 @@ pub mod UniqueSets
 pub mod Required
 -- The rows of nearest methods lead to all that override (Leading).
 pub mod Leading
+-- What those rows tell gives the near paths (PassingLemmas).
+mod PassingLemmas
 -- Lemmas on callers: measures of bodies (Weights, Blocks), methods in memory (CallerLookups), rows of callers (CalleeLemmas), and what the effect
 -- of a body depends on (CallsSame).
 pub mod Weights

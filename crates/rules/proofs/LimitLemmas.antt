@@ -16,7 +16,7 @@ use Rattle.paths.proofs.PathOrder.{equal_is, eq_is, eq_itself, greater_turned, l
 use Rattle.algebra.specs.HeldPaths.{has_path}
 use Rattle.core_program.specs.Core.{Program, Method}
 use Rattle.rules.specs.Near.{Near, IsOuter, IsInner, IsRel, IsLoc, MethodPaths, ArePathsOf, AreRelevant, AreFew, IsWellFormed, rel_of, loc_of, rel_paths, loc_paths, most_locks}
-use Rattle.rules.specs.Clauses.{program_clauses}
+use Rattle.rules.specs.Passing.{GiveNear}
 use Rattle.rules.specs.Search.{row_at, IsLeastFamily}
 use Rattle.rules.specs.Limits.{AreMany, IsCrowded, HasFew, IsFirstCrowded, is_crowded, parted, parted_from}
 use Rattle.core_program.specs.declared.program.CoreMethod.{CoreMethod}
@@ -25,7 +25,6 @@ use Rattle.rules.specs.declared.sets.PathsOfMethod.{PathsOfMethod}
 use Rattle.rules.specs.declared.clauses.Clause.{Clause}
 use Rattle.rules.specs.declared.relevance.RuleEnd.{RuleEnd}
 use Rattle.rules.specs.declared.relevance.RuleEnd.TheVariants as end
-use Rattle.rules.proofs.Reaching.{near_from_reached, reached_from_near}
 
 -- By roots.
 
@@ -77,10 +76,8 @@ parted_at near m (method ∷ methods) (suc k) paths at =
     let h = parted_at near (m + 1) methods k paths at in
     (h.0, h.1, h.2 ∙ ap (λ n. parted (length h.0.params) (row_at near n)) e)
 
-module _ (P : Program) (near : List (List PathData)) (least : IsLeastFamily P (program_clauses P) near) where
-  near_is : (m : ℕ) (p : PathData) → (has_path (row_at near m) p ≡ true) ↔ Near P m p
-  near_is m p = (λ h. near_from_reached P m p ((least.exact m p).0 h), λ n. (least.exact m p).1 (reached_from_near P m p n))
-
+module _ (P : Program) (near : List (List PathData)) (ascends : (m : ℕ) → IsStrictlySortedBy path_order (row_at near m))
+    (near_is : (m : ℕ) (p : PathData) → (has_path (row_at near m) p ≡ true) ↔ Near P m p) where
   method_of_outer : (m : ℕ) (method : Method) (p : PathData) → slice_get P.methods m ≡ Some method → IsOuter P m p → p.root ≤ length method.params
   method_of_outer m method p is (other, there, root) = subst (λ x. p.root ≤ length x.params) (same_Some other method (sym there ∙ is)) root
 
@@ -97,8 +94,8 @@ module _ (P : Program) (near : List (List PathData)) (least : IsLeastFamily P (p
       λ h. let k = has_filter (λ q. nat_lt (length method.params) q.root) (row_at near m) p h in ((near_is m p).0 k.1, (method, is, ltb-true _ _ k.0)),
       λ r. filter_has (λ q. nat_lt (length method.params) q.root) (row_at near m) p (lt-ltb _ _ (method_of_inner m method p is r.1)) ((near_is m p).1 r.0),
     );
-    rel_ascends = IsStrictlySortedBy-filter path_order (λ q. nat_le q.root (length method.params)) (row_at near m) (least.ascends m);
-    loc_ascends = IsStrictlySortedBy-filter path_order (λ q. nat_lt (length method.params) q.root) (row_at near m) (least.ascends m);
+    rel_ascends = IsStrictlySortedBy-filter path_order (λ q. nat_le q.root (length method.params)) (row_at near m) (ascends m);
+    loc_ascends = IsStrictlySortedBy-filter path_order (λ q. nat_lt (length method.params) q.root) (row_at near m) (ascends m);
   }
 
   pub relevant_sets : (sets : List MethodPaths) → sets ≡ parted_from near 0 P.methods → AreRelevant P sets
@@ -228,9 +225,11 @@ first_is P m n first second = elim (nat_lt m n) as (λ b. nat_lt m n ≡ b → m
 
 -- In memory.
 
-pub sets_ok : {E : Type 0} (r : Result (List MethodPaths) E) (P : Program) (clauses read : List Clause) (near seen : List (List PathData)) → read ≡ clauses → clauses ≡ program_clauses P → IsLeastFamily P read near → seen ≡ near → IfOk r (λ sets. sets ≡ parted_from seen 0 P.methods) → IfOk r (λ sets. AreRelevant P sets)
-sets_ok (Ok sets) P clauses read near seen same is least also h = relevant_sets P near (subst (λ cs. IsLeastFamily P cs near) (same ∙ is) least) sets (h ∙ ap (λ n. parted_from n 0 P.methods) also)
-sets_ok (Err e) P clauses read near seen same is least also h = tt
+pub sets_ok : {E : Type 0} (r : Result (List MethodPaths) E) (P : Program) (clauses read : List Clause) (near seen : List (List PathData)) → read ≡ clauses → GiveNear P clauses → IsLeastFamily P read near → seen ≡ near → IfOk r (λ sets. sets ≡ parted_from seen 0 P.methods) → IfOk r (λ sets. AreRelevant P sets)
+sets_ok (Ok sets) P clauses read near seen same give least also h =
+    let all : GiveNear P read = subst (GiveNear P) (sym same) give in
+    relevant_sets P near least.ascends (λ m p. (λ has. (all m p).0 ((least.exact m p).0 has), λ n. (least.exact m p).1 ((all m p).1 n))) sets (h ∙ ap (λ n. parted_from n 0 P.methods) also)
+sets_ok (Err e) P clauses read near seen same give least also h = tt
 
 abbrev view_of : PathsOfMethod → MethodPaths
 view_of m = record { rel = m.rel.items; loc = m.loc.items }

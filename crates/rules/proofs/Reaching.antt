@@ -1,10 +1,10 @@
 -- What is reached by a program's clauses are the near paths.
-use Rattle.std.proofs.Common.{◌≡◌, ℕ, zero, suc, ◌+◌, ◌≤◌, Bool, true, false, not, ◌==◌, ◌&&◌, List, [], ◌∷◌, ◌++◌, length, map, Some, None, refl, sym, ap, subst, ◌∙◌, arith, inl, inr}
+use Rattle.std.proofs.Common.{◌≡◌, ℕ, zero, suc, ◌+◌, ◌<◌, ◌≤◌, Bool, true, false, not, ◌==◌, ◌&&◌, List, [], ◌∷◌, ◌++◌, length, map, Some, None, refl, sym, ap, subst, ◌∙◌, arith, inl, inr}
 use Rattle.std.specs.Prelude.{Option, Contains, slice_get, nat_le, if◌then◌else◌}
 use Rattle.std.proofs.lemmas.List.Elements.{Contains-append_left, Contains-append_right, Contains-append_cases}
 use Rattle.std.proofs.lemmas.Bool.Decides.{nat_tests}
 use Rattle.std.proofs.lemmas.Bool.{le-leb, leb-true, eqb-true, eq-eqb, ne_eqb, and_parts, and_from, not-true, not_from_false}
-use Rattle.std.proofs.lemmas.Option.{none-some, same_Some}
+use Rattle.std.proofs.lemmas.Option.{none-some, same_Some, slice_get_within}
 use Rattle.base.proofs.Lists.{contains_cases, contains_later}
 use Rattle.paths.specs.Paths.{PathData, extended, extended_some}
 use Rattle.paths.specs.Renamings.{argument_at, passed}
@@ -13,12 +13,14 @@ use Rattle.core_program.specs.Dispatch.{partner, targets_in, target_of, Override
 use Rattle.core_program.specs.Locks.{path_of}
 use Rattle.rules.specs.Guards.{guard_of, guard_path}
 use Rattle.rules.specs.Mentions.{Mention, Accesses, Calls, Locks, Names, mentions, paths_of}
-use Rattle.rules.specs.Near.{begins_in, Near, required, locked, guarded, called, overriding, named, Mentions, Requires}
+use Rattle.rules.specs.Near.{begins_in, Near, required, locked, guarded, called, overriding, named, Mentions, Requires, IsOuter, IsKnown}
 use Rattle.rules.specs.declared.clauses.Way.TheVariants as way
 use Rattle.rules.specs.declared.clauses.Link.{Link}
 use Rattle.rules.specs.declared.clauses.Clause.{Clause}
 use Rattle.rules.specs.declared.clauses.Clause.TheVariants as clause
-use Rattle.rules.specs.Clauses.{fact, link_clauses, passed_clauses, all_passed, params_of, call_clauses, guard_clauses, clauses_at, clauses_of, method_clauses, clauses_from, method_class, is_this_number, is_over, kept_clauses, pair_clauses, pairs_clauses, over_clauses, program_clauses, led_by, ReachedPath, given, led}
+use Rattle.rules.specs.Clauses.{fact, link_clauses, passed_clauses, all_passed, params_of, call_clauses, guard_clauses, clauses_at, clauses_of, method_clauses, clauses_from, method_class, is_this_number, is_over, kept_clauses, led_by, ReachedPath, given, led}
+use Rattle.rules.specs.Search.{row_at}
+use Rattle.rules.specs.Passing.{row_clauses, rows_clauses}
 
 pub contains_none : {A : Type 0} {X : Type 0} (x : A) → Contains [] x → X
 contains_none x (k, below, is) = absurd (omega arith)
@@ -139,7 +141,7 @@ pub number_is : (o : Option ℕ) (n : ℕ) → is_this_number o n ≡ true → o
 number_is None n e = absurd (let k : false ≡ true = e in cc)
 number_is (Some k) n e = ap Some (eqb-true k n e)
 
-method_of : (o : Option Method) (c : ℕ) → method_class o ≡ Some c → (method : Method) × (o ≡ Some method) × (method.class ≡ c)
+pub method_of : (o : Option Method) (c : ℕ) → method_class o ≡ Some c → (method : Method) × (o ≡ Some method) × (method.class ≡ c)
 method_of None c e = absurd (none-some c e)
 method_of (Some method) c e = (method, refl, same_Some method.class c e)
 
@@ -162,32 +164,30 @@ kept_sound P over m o (Some first) (Some second) is_first is_second = one_sound 
     let k = kept_parts P (length first.params) second.class q p led_is in
     subst (Near P m) k.2 (overriding over o near (first, is_first, leb-true q.root (length first.params) k.0) (second, is_second, k.1)))
 
-pair_sound : (P : Program) (c : ℕ) (p : ℕ × ℕ) → AllSound P (pair_clauses P c p)
-pair_sound P c p = by_test (is_over P c p) refl
-  where
-    by_test : (b : Bool) → is_over P c p ≡ b → AllSound P (if b then kept_clauses p.1 p.0 (params_of (slice_get P.methods p.1)) (method_class (slice_get P.methods p.0)) else [])
-    by_test true e = kept_sound P p.1 p.0 (overrides_of P c p e) (slice_get P.methods p.1) (slice_get P.methods p.0) refl refl
-    by_test false e = none_sound P
+row_sound : (P : Program) (m : ℕ) (row : List ℕ) → ((over : ℕ) → Contains row over → Overrides P over m) → AllSound P (row_clauses P m row)
+row_sound P m [] overs = none_sound P
+row_sound P m (over ∷ row) overs =
+    both_sound P (kept_clauses over m (params_of (slice_get P.methods over)) (method_class (slice_get P.methods m))) (row_clauses P m row)
+    (kept_sound P over m (overs over (contains_here over row)) (slice_get P.methods over) (slice_get P.methods m) refl refl)
+    (row_sound P m row (λ x has. overs x (contains_later over x row has)))
 
-pairs_sound : (P : Program) (c : ℕ) (ps : List (ℕ × ℕ)) → AllSound P (pairs_clauses P c ps)
-pairs_sound P c [] = none_sound P
-pairs_sound P c (p ∷ ps) = both_sound P (pair_clauses P c p) (pairs_clauses P c ps) (pair_sound P c p) (pairs_sound P c ps)
+rows_sound : (P : Program) (rows : List (List ℕ)) (m count : ℕ) → ((n over : ℕ) → Contains (row_at rows n) over → Overrides P over n) → AllSound P (rows_clauses P rows m count)
+rows_sound P rows m zero overs = none_sound P
+rows_sound P rows m (suc count) overs =
+    both_sound P (row_clauses P m (row_at rows m)) (rows_clauses P rows (m + 1) count) (row_sound P m (row_at rows m) (overs m)) (rows_sound P rows (m + 1) count overs)
 
-over_sound : (P : Program) (c : ℕ) (classes : List Class) → AllSound P (over_clauses P c classes)
-over_sound P c [] = none_sound P
-over_sound P c (class ∷ classes) = both_sound P (pairs_clauses P c class.targets) (over_clauses P (c + 1) classes) (pairs_sound P c class.targets) (over_sound P (c + 1) classes)
-
-program_sound : (P : Program) → AllSound P (program_clauses P)
-program_sound P = both_sound P (clauses_from P 0 P.methods) (over_clauses P 0 P.classes)
+program_sound : (P : Program) (rows : List (List ℕ)) → ((n over : ℕ) → Contains (row_at rows n) over → Overrides P over n) → AllSound P (clauses_from P 0 P.methods ++ rows_clauses P rows 0 (length P.methods))
+program_sound P rows overs = both_sound P (clauses_from P 0 P.methods) (rows_clauses P rows 0 (length P.methods))
     (all_sound P 0 P.methods (λ k method has. let e : k ≡ 0 + k = omega arith in subst (λ n. slice_get P.methods n ≡ Some method) e has))
-    (over_sound P 0 P.classes)
+    (rows_sound P rows 0 (length P.methods) overs)
 
 sound_near : (P : Program) (cs : List Clause) → AllSound P cs → (m : ℕ) (p : PathData) → ReachedPath P cs m p → Near P m p
 sound_near P cs sound m p (given has) = sound _ has
 sound_near P cs sound m p (led link q reached has fits) = sound _ has q p (sound_near P cs sound _ q reached) fits
 
-pub near_from_reached : (P : Program) (m : ℕ) (p : PathData) → ReachedPath P (program_clauses P) m p → Near P m p
-near_from_reached P m p reached = sound_near P _ (program_sound P) m p reached
+pub near_from_reached : (P : Program) (rows : List (List ℕ)) → ((n over : ℕ) → Contains (row_at rows n) over → Overrides P over n)
+    → (m : ℕ) (p : PathData) → ReachedPath P (clauses_from P 0 P.methods ++ rows_clauses P rows 0 (length P.methods)) m p → Near P m p
+near_from_reached P rows overs m p reached = sound_near P _ (program_sound P rows overs) m p reached
 
 -- Each rule of the family is among the clauses.
 
@@ -209,15 +209,15 @@ in_clauses_from P m (first ∷ methods) (suc k) method c at has =
     let e1 : m + suc k ≡ m + 1 + k = omega arith in
     Contains-append_right (method_clauses P m first) (clauses_from P (m + 1) methods) c (in_clauses_from P (m + 1) methods k method c at (subst (λ n. Contains (method_clauses P n method) c) e1 has))
 
-in_program : (P : Program) (m : ℕ) (method : Method) (c : Clause) → slice_get P.methods m ≡ Some method → Contains (method_clauses P m method) c → Contains (program_clauses P) c
-in_program P m method c at has =
+in_program : (P : Program) (others : List Clause) (m : ℕ) (method : Method) (c : Clause) → slice_get P.methods m ≡ Some method → Contains (method_clauses P m method) c → Contains (clauses_from P 0 P.methods ++ others) c
+in_program P others m method c at has =
     let e : m ≡ 0 + m = omega arith in
-    Contains-append_left (clauses_from P 0 P.methods) (over_clauses P 0 P.classes) c
+    Contains-append_left (clauses_from P 0 P.methods) others c
     (in_clauses_from P 0 P.methods m method c at (subst (λ n. Contains (method_clauses P n method) c) e has))
 
-mentioned : (P : Program) (m : ℕ) (x : Mention) (c : Clause) → Mentions P m x → Contains (clauses_at P m x) c → Contains (program_clauses P) c
-mentioned P m x c (method, is, has) in_one =
-    in_program P m method c is (Contains-append_right (map (λ p. fact m p) method.requires_) (clauses_of P m (mentions method.body)) c (in_clauses_of P m (mentions method.body) x c has in_one))
+mentioned : (P : Program) (others : List Clause) (m : ℕ) (x : Mention) (c : Clause) → Mentions P m x → Contains (clauses_at P m x) c → Contains (clauses_from P 0 P.methods ++ others) c
+mentioned P others m x c (method, is, has) in_one =
+    in_program P others m method c is (Contains-append_right (map (λ p. fact m p) method.requires_) (clauses_of P m (mentions method.body)) c (in_clauses_of P m (mentions method.body) x c has in_one))
 
 in_facts : (m : ℕ) (ps : List PathData) (p : PathData) → Contains ps p → Contains (map (λ p. fact m p) ps) (fact m p)
 in_facts m [] p has = contains_none p has
@@ -226,9 +226,9 @@ in_facts m (q ∷ ps) p has = elim (contains_cases q p ps has) as (λ _. Contain
   | inr h ↦ contains_later (fact m q) (fact m p) (map (λ p. fact m p) ps) (in_facts m ps p h)
 ]
 
-in_requires : (P : Program) (m : ℕ) (p : PathData) → Requires P m p → Contains (program_clauses P) (fact m p)
-in_requires P m p (method, is, has) =
-    in_program P m method (fact m p) is (Contains-append_left (map (λ p. fact m p) method.requires_) (clauses_of P m (mentions method.body)) (fact m p) (in_facts m method.requires_ p has))
+in_requires : (P : Program) (others : List Clause) (m : ℕ) (p : PathData) → Requires P m p → Contains (clauses_from P 0 P.methods ++ others) (fact m p)
+in_requires P others m p (method, is, has) =
+    in_program P others m method (fact m p) is (Contains-append_left (map (λ p. fact m p) method.requires_) (clauses_of P m (mentions method.body)) (fact m p) (in_facts m method.requires_ p has))
 
 guard_in : (m : ℕ) (o : Option PathData) (p : PathData) → o ≡ Some p → Contains (guard_clauses m o) (fact m p)
 guard_in m o p is = subst (λ x. Contains (guard_clauses m x) (fact m p)) (sym is) (contains_here (fact m p) [])
@@ -268,7 +268,7 @@ start_of : (o : Option PathData) (fields : List ℕ) (p : PathData) → extended
 start_of None fields p is = absurd cc
 start_of (Some start) fields p is = (start, refl, is)
 
--- an overriding method's clause is among those of its class
+-- the pairs of a class
 
 pub partner_in : (ps : List (ℕ × ℕ)) (m n : ℕ) → partner ps m ≡ Some n → Contains ps (m, n)
 partner_in [] m n e = absurd (none-some n e)
@@ -281,23 +281,6 @@ partner_in (p ∷ ps) m n e = by_first (p.0 == m) refl (partner_in ps m n) e
         let pair : p ≡ (m, n) = (λ i. (first i, second i)) in
         subst (Contains (p ∷ ps)) pair (contains_here p ps)
     by_first false other later e = contains_later p (m, n) ps (later e)
-
-in_pairs : (P : Program) (c : ℕ) (ps : List (ℕ × ℕ)) (p : ℕ × ℕ) (x : Clause) → Contains ps p → Contains (pair_clauses P c p) x → Contains (pairs_clauses P c ps) x
-in_pairs P c [] p x has in_one = contains_none p has
-in_pairs P c (q ∷ ps) p x has in_one = elim (contains_cases q p ps has) as (λ _. Contains (pairs_clauses P c (q ∷ ps)) x) [
-  | inl e ↦ Contains-append_left (pair_clauses P c q) (pairs_clauses P c ps) x (subst (λ z. Contains (pair_clauses P c z) x) (sym e) in_one)
-  | inr h ↦ Contains-append_right (pair_clauses P c q) (pairs_clauses P c ps) x (in_pairs P c ps p x h in_one)
-]
-
-in_classes : (P : Program) (c : ℕ) (classes : List Class) (k : ℕ) (class : Class) (x : Clause) → slice_get classes k ≡ Some class → Contains (pairs_clauses P (c + k) class.targets) x → Contains (over_clauses P c classes) x
-in_classes P c [] k class x at has = absurd (none-some class at)
-in_classes P c (first ∷ classes) zero class x at has =
-    let e0 : c + 0 ≡ c = omega arith in
-    Contains-append_left (pairs_clauses P c first.targets) (over_clauses P (c + 1) classes) x
-    (subst (λ n. Contains (pairs_clauses P n first.targets) x) e0 (subst (λ z. Contains (pairs_clauses P (c + 0) z.targets) x) (sym (same_Some first class at)) has))
-in_classes P c (first ∷ classes) (suc k) class x at has =
-    let e1 : c + suc k ≡ c + 1 + k = omega arith in
-    Contains-append_right (pairs_clauses P c first.targets) (over_clauses P (c + 1) classes) x (in_classes P (c + 1) classes k class x at (subst (λ n. Contains (pairs_clauses P n class.targets) x) e1 has))
 
 pub class_with : (o : Option Class) (m n : ℕ) → partner (targets_in o) m ≡ Some n → (class : Class) × (o ≡ Some class) × (partner class.targets m ≡ Some n)
 class_with None m n e = absurd (none-some n e)
@@ -312,37 +295,59 @@ module _ (P : Program) (over m : ℕ) (o : Overrides P over m) where
       (ap (λ x. is_this_number (method_class x) o.method.class) o.is ∙ eq-eqb o.method.class o.method.class refl)
       (ap (λ x. is_this_number x over) o.runs ∙ eq-eqb over over refl))
 
-  over_in : (first second : Method) → slice_get P.methods over ≡ Some first → slice_get P.methods m ≡ Some second → Contains (program_clauses P) (clause.Leads (record { from = over; to = m; way = way.Kept (length first.params) second.class }))
-  over_in first second is_first is_second =
-      let x = clause.Leads (record { from = over; to = m; way = way.Kept (length first.params) second.class }) in
-      let c = o.method.class in
-      let there = class_with (slice_get P.classes c) m over o.runs in
-      let kept : kept_clauses over m (params_of (slice_get P.methods over)) (method_class (slice_get P.methods m)) ≡ x ∷ [] =
-      ap (λ z. kept_clauses over m (params_of z) (method_class (slice_get P.methods m))) is_first ∙ ap (λ z. kept_clauses over m (Some (length first.params)) (method_class z)) is_second in
-      let pair : pair_clauses P c (m, over) ≡ x ∷ [] =
-      ap (λ b. if b then kept_clauses over m (params_of (slice_get P.methods over)) (method_class (slice_get P.methods m)) else []) over_true ∙ kept in
-      let e0 : c ≡ 0 + c = omega arith in
-      Contains-append_right (clauses_from P 0 P.methods) (over_clauses P 0 P.classes) x
-      (in_classes P 0 P.classes c there.0 x there.1
-      (subst (λ n. Contains (pairs_clauses P n there.0.targets) x) e0
-      (in_pairs P c there.0.targets (m, over) x (partner_in there.0.targets m over there.2) (subst (λ l. Contains l x) (sym pair) (contains_here x [])))))
+-- What overriding methods tell is among the clauses of the rows.
 
-pub reached_from_near : (P : Program) (m : ℕ) (p : PathData) → Near P m p → ReachedPath P (program_clauses P) m p
-reached_from_near P m p (required has) = given (in_requires P m p has)
-reached_from_near P m p (locked has) = given (mentioned P m (Locks p) (fact m p) has (contains_here (fact m p) []))
-reached_from_near P m p (guarded e f has is) = given (mentioned P m (Accesses e f) (fact m p) has (guard_in m (guard_path (guard_of P f (path_of P e))) p is))
-reached_from_near P m p (called e callee args q has near outer under) =
-    let s = start_of (passed (path_of P e) (paths_of P args) q.root) q.fields p under in
-    let link : Link = record { from = callee; to = m; way = way.Passed q.root s.0 } in
-    led link q (reached_from_near P callee q near)
-    (mentioned P m (Calls e callee args) (clause.Leads link) has
-    (subst (λ o. Contains (call_clauses callee m (params_of o) (path_of P e) (paths_of P args)) (clause.Leads link)) (sym outer.1)
-    (call_in (length outer.0.params) callee m (path_of P e) (paths_of P args) q.root s.0 s.1 (le-leb q.root (length outer.0.params) outer.2))))
-    (passed_led P q.root s.0 q p refl s.2)
-reached_from_near P m p (overriding over o near outer known) =
-    led (record { from = over; to = m; way = way.Kept (length outer.0.params) known.0.class }) p (reached_from_near P over p near)
-    (over_in P over m o outer.0 known.0 outer.1 known.1)
-    (ap (λ b. if b then Some p else None) (and_from (nat_le p.root (length outer.0.params)) (begins_in P known.0.class p.root p.fields) (le-leb p.root (length outer.0.params) outer.2) known.2))
-reached_from_near P m p (named q e start near has is fits) =
-    let link : Link = record { from = m; to = m; way = way.Passed q.root start } in
-    led link q (reached_from_near P m q near) (mentioned P m (Names q.root e) (clause.Leads link) has (link_in m q.root m (path_of P e) start is)) (passed_led P q.root start q p refl fits)
+in_row : (P : Program) (m : ℕ) (row : List ℕ) (over : ℕ) (x : Clause) → Contains row over
+    → kept_clauses over m (params_of (slice_get P.methods over)) (method_class (slice_get P.methods m)) ≡ x ∷ [] → Contains (row_clauses P m row) x
+in_row P m [] over x has is = contains_none over has
+in_row P m (first ∷ row) over x has is =
+    let here : ℕ → List Clause = λ n. kept_clauses n m (params_of (slice_get P.methods n)) (method_class (slice_get P.methods m)) in
+    elim (contains_cases first over row has) as (λ _. Contains (row_clauses P m (first ∷ row)) x) [
+      | inl e ↦ Contains-append_left (here first) (row_clauses P m row) x (subst (λ l. Contains l x) (sym is ∙ sym (ap here e)) (contains_here x []))
+      | inr h ↦ Contains-append_right (here first) (row_clauses P m row) x (in_row P m row over x h is)
+    ]
+
+in_rows : (P : Program) (rows : List (List ℕ)) (m count k : ℕ) (x : Clause) → k < count → Contains (row_clauses P (m + k) (row_at rows (m + k))) x → Contains (rows_clauses P rows m count) x
+in_rows P rows m zero k x below has = absurd (omega (arith, below))
+in_rows P rows m (suc count) zero x below has =
+    let e0 : m + 0 ≡ m = omega arith in
+    Contains-append_left (row_clauses P m (row_at rows m)) (rows_clauses P rows (m + 1) count) x (subst (λ n. Contains (row_clauses P n (row_at rows n)) x) e0 has)
+in_rows P rows m (suc count) (suc k) x below has =
+    let e1 : m + suc k ≡ m + 1 + k = omega arith in
+    Contains-append_right (row_clauses P m (row_at rows m)) (rows_clauses P rows (m + 1) count) x
+    (in_rows P rows (m + 1) count k x (omega (arith, below)) (subst (λ n. Contains (row_clauses P n (row_at rows n)) x) e1 has))
+
+-- a path that an overriding method of a row has is reached from the method of the row
+pub passed_down : (P : Program) (rows : List (List ℕ)) (m over : ℕ) (p : PathData) → Contains (row_at rows m) over → IsOuter P over p → IsKnown P m p
+    → ReachedPath P (clauses_from P 0 P.methods ++ rows_clauses P rows 0 (length P.methods)) over p
+    → ReachedPath P (clauses_from P 0 P.methods ++ rows_clauses P rows 0 (length P.methods)) m p
+passed_down P rows m over p has (first, is_first, root) (second, is_second, begins) reached =
+    let link : Link = record { from = over; to = m; way = way.Kept (length first.params) second.class } in
+    let kept : kept_clauses over m (params_of (slice_get P.methods over)) (method_class (slice_get P.methods m)) ≡ clause.Leads link ∷ [] =
+    ap (λ z. kept_clauses over m (params_of z) (method_class (slice_get P.methods m))) is_first ∙ ap (λ z. kept_clauses over m (Some (length first.params)) (method_class z)) is_second in
+    let e0 : m ≡ 0 + m = omega arith in
+    led link p reached
+    (Contains-append_right (clauses_from P 0 P.methods) (rows_clauses P rows 0 (length P.methods)) (clause.Leads link)
+    (in_rows P rows 0 (length P.methods) m (clause.Leads link) (slice_get_within P.methods m second is_second)
+    (subst (λ n. Contains (row_clauses P n (row_at rows n)) (clause.Leads link)) e0 (in_row P m (row_at rows m) over (clause.Leads link) has kept))))
+    (ap (λ b. if b then Some p else None) (and_from (nat_le p.root (length first.params)) (begins_in P second.class p.root p.fields) (le-leb p.root (length first.params) root) begins))
+
+-- near paths are reached, where those of overriding methods are passed down
+module _ (P : Program) (others : List Clause)
+    (passes : (m over : ℕ) (p : PathData) → Overrides P over m → IsOuter P over p → IsKnown P m p → ReachedPath P (clauses_from P 0 P.methods ++ others) over p → ReachedPath P (clauses_from P 0 P.methods ++ others) m p) where
+  pub reached_from_near : (m : ℕ) (p : PathData) → Near P m p → ReachedPath P (clauses_from P 0 P.methods ++ others) m p
+  reached_from_near m p (required has) = given (in_requires P others m p has)
+  reached_from_near m p (locked has) = given (mentioned P others m (Locks p) (fact m p) has (contains_here (fact m p) []))
+  reached_from_near m p (guarded e f has is) = given (mentioned P others m (Accesses e f) (fact m p) has (guard_in m (guard_path (guard_of P f (path_of P e))) p is))
+  reached_from_near m p (called e callee args q has near outer under) =
+      let s = start_of (passed (path_of P e) (paths_of P args) q.root) q.fields p under in
+      let link : Link = record { from = callee; to = m; way = way.Passed q.root s.0 } in
+      led link q (reached_from_near callee q near)
+      (mentioned P others m (Calls e callee args) (clause.Leads link) has
+      (subst (λ o. Contains (call_clauses callee m (params_of o) (path_of P e) (paths_of P args)) (clause.Leads link)) (sym outer.1)
+      (call_in (length outer.0.params) callee m (path_of P e) (paths_of P args) q.root s.0 s.1 (le-leb q.root (length outer.0.params) outer.2))))
+      (passed_led P q.root s.0 q p refl s.2)
+  reached_from_near m p (overriding over o near outer known) = passes m over p o outer known (reached_from_near over p near)
+  reached_from_near m p (named q e start near has is fits) =
+      let link : Link = record { from = m; to = m; way = way.Passed q.root start } in
+      led link q (reached_from_near m q near) (mentioned P others m (Names q.root e) (clause.Leads link) has (link_in m q.root m (path_of P e) start is)) (passed_led P q.root start q p refl fits)

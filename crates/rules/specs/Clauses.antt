@@ -1,7 +1,7 @@
 -- The rules of the family of near paths, as the bodies of a program have them: facts, and links from one method's paths to another's.
 use Rattle.std.specs.Prelude.{nat_lt, ◌≡◌, ℕ, ◌+◌, Bool, true, false, not, ◌&&◌, ◌==◌, List, [], ◌∷◌, ◌++◌, map, length, nat_le, Option, Some, None, Contains, slice_get, if◌then◌else◌}
 use Rattle.paths.specs.Paths.{PathData, extended}
-use Rattle.core_program.specs.Core.{Program, Class, Method}
+use Rattle.core_program.specs.Core.{Program, Method}
 use Rattle.core_program.specs.Dispatch.{target_of}
 use Rattle.core_program.specs.Locks.{path_of}
 use Rattle.rules.specs.Guards.{guard_of, guard_path}
@@ -92,25 +92,6 @@ abbrev pub kept_clauses : (over m : ℕ) → Option ℕ → Option ℕ → List 
 kept_clauses over m None class = []
 kept_clauses over m (Some params) None = []
 kept_clauses over m (Some params) (Some class) = clause.Leads (record { from = over; to = m; way = way.Kept params class }) ∷ []
-
--- the clause of a pair, where its method overrides
-abbrev pub pair_clauses : Program → ℕ → ℕ × ℕ → List Clause
-pair_clauses P c p =
-    if is_over P c p then kept_clauses p.1 p.0 (params_of (slice_get P.methods p.1)) (method_class (slice_get P.methods p.0)) else []
-
--- the clauses of a class's pairs
-abbrev pub pairs_clauses : Program → ℕ → List (ℕ × ℕ) → List Clause
-pairs_clauses P c [] = []
-pairs_clauses P c (p ∷ rest) = pair_clauses P c p ++ pairs_clauses P c rest
-
--- the clauses of overriding methods, of classes that are numbered from here on
-abbrev pub over_clauses : Program → ℕ → List Class → List Clause
-over_clauses P c [] = []
-over_clauses P c (class ∷ classes) = pairs_clauses P c class.targets ++ over_clauses P (c + 1) classes
-
--- all clauses of a program
-abbrev pub program_clauses : Program → List Clause
-program_clauses P = clauses_from P 0 P.methods ++ over_clauses P 0 P.classes
 
 -- the path that one becomes on a way, where it becomes one
 abbrev pub led_by : Program → Way → PathData → Option PathData

@@ -1,6 +1,6 @@
 -- What the contracts of the rules cite, in this order: what a body mentions (Mentions), guards (Guards), relevant paths (Near), the
--- effect of a part (Effect), accepted programs (Rules), and the limit of relevant paths (Limits). Clauses, Search and Overriding serve
--- the search for relevant paths, and Examples has an assignment. Of proofs/ these files are public, crates above cite them:
+-- effect of a part (Effect), accepted programs (Rules), and the limit of relevant paths (Limits). Clauses, Search, Overriding and Passing
+-- serve the search for relevant paths, and Examples has an assignment. Of proofs/ these files are public, crates above cite them:
 -- BasicLemmas (the order of basics), SetLemmas, Falling, EffectRises, NearOnly, UniqueSets, LimitLemmas, AcceptedExample.
 pub mod Mentions
 pub mod Guards
@@ -15,5 +15,6 @@ pub mod Limits
 -- What the contract cites (Nearest), and which pairs of a class the rows take (Pairs).
 pub mod Nearest
 pub mod Pairs
+pub mod Passing
 -- Which methods a body calls, and the callers of each method (Called).
 pub mod Called

@@ -1,11 +1,12 @@
 //! The rules of the family of near paths, as the bodies of a program have them.
 ghost use Rattle.std.specs.Prelude.{◌≡◌, ◌≤◌, ◌^◌, ◌+◌, ◌++◌, true, Some, length, OnOk, IfOk, slice_get};
 ghost use Rattle.core_program.specs.Views.{program_of};
-ghost use Rattle.rules.specs.Clauses.{params_of, clauses_of};
-ghost use Rattle.rules.specs.Clauses.{ascend, method_class, is_this_number, is_over, kept_clauses, pair_clauses, pairs_clauses, over_clauses, program_clauses};
-ghost use Rattle.core_program.specs.Dispatch.{target_of, targets_in};
+ghost use Rattle.rules.specs.Clauses.{params_of, ascend, method_class, is_this_number, is_over, kept_clauses};
+ghost use Rattle.rules.specs.Passing.{GiveNear};
+ghost use Rattle.core_program.specs.Dispatch.{target_of};
 
 use crate::body_clauses::clauses_of;
+use crate::passing::add_overriding;
 use core_program::CoreProgram;
 use paths::{ClassId, MethodId, Path};
 use std::alloc::{AllocError as NoMemory, Global};
@@ -88,29 +89,11 @@ pub(crate) enum Clause {
 /// The clauses of a program: those of its methods, and those of the methods that override.
 pub(crate) fn program_clauses(alloc: Global, program: &CoreProgram) -> Result<Vec<Clause>, NoMemory>
     requires { length (program_of program.now).methods ≤ 2 ^ 32 }
-    ensures { IfOk result (λ clauses. clauses.items ≡ program_clauses (program_of program.now)) }
+    ensures { IfOk result (λ clauses. GiveNear (program_of program.now) clauses.items) }
 {
     let mut clauses = clauses_of(alloc, program)?;
-    add_overriding(program, &mut clauses)?;
+    add_overriding(alloc, program, &mut clauses)?;
     Ok(clauses)
-}
-
-/// The clauses of the methods that override, class by class.
-fn add_overriding(program: &CoreProgram, clauses: &mut Vec<Clause>) -> Result<(), NoMemory>
-    ensures { OnOk result (let P = program_of program.now in clauses.new.items ≡ clauses.old.items ++ over_clauses P 0 P.classes) }
-{
-    let classes = program.classes();
-    let mut number = 0;
-    for place in 0..classes.len() {
-        add_pairs(
-            program,
-            ClassId(number),
-            classes[place].targets.as_slice(),
-            clauses,
-        )?;
-        number = next_class(number)?;
-    }
-    Ok(())
 }
 
 /// The number after this one. There is no memory for more classes than numbers.
@@ -121,24 +104,6 @@ pub(crate) fn next_class(number: u32) -> Result<u32, NoMemory>
         Some(next) => Ok(next),
         None => Err(NoMemory),
     }
-}
-
-/// The clauses of a class's pairs.
-fn add_pairs(
-    program: &CoreProgram,
-    class: ClassId,
-    pairs: &[(MethodId, MethodId)],
-    clauses: &mut Vec<Clause>,
-) -> Result<(), NoMemory>
-    requires { pairs.now ≡ targets_in (slice_get (program_of program.now).classes class) }
-    ensures { OnOk result (clauses.new.items ≡ clauses.old.items ++ pairs_clauses (program_of program.now) class pairs.now) }
-{
-    let is_known = ascend(pairs);
-    for place in 0..pairs.len() {
-        let pair = &pairs[place];
-        add_pair(program, class, pair.0, pair.1, is_known, clauses)?;
-    }
-    Ok(())
 }
 
 /// Whether the first methods of the pairs ascend, as they do in a typed program. Then each pair says by itself which
@@ -156,26 +121,6 @@ pub(crate) fn ascend(pairs: &[(MethodId, MethodId)]) -> bool
         rest = others;
     }
     true
-}
-
-/// The clause of a pair of a class, where its method is the class's and overrides the other. Only such pairs are looked
-/// up among all, unless it is known that the class runs the second method for the first.
-fn add_pair(
-    program: &CoreProgram,
-    class: ClassId,
-    method: MethodId,
-    over: MethodId,
-    is_known: bool,
-    clauses: &mut Vec<Clause>,
-) -> Result<(), NoMemory>
-    requires { is_known ≡ true → target_of (program_of program.now) class method ≡ Some over }
-    ensures { OnOk result (clauses.new.items ≡ clauses.old.items ++ pair_clauses (program_of program.now) class (method, over)) }
-{
-    if is_over(program, class, method, over, is_known) {
-        add_kept(program, over, method, clauses)
-    } else {
-        Ok(())
-    }
 }
 
 /// Whether the pair has a method of the class itself, which overrides the other.
@@ -229,14 +174,14 @@ fn is_target(program: &CoreProgram, class: ClassId, method: MethodId, over: Meth
 }
 
 /// The class of a method, where it is there.
-fn class_of(program: &CoreProgram, method: MethodId) -> Option<ClassId>
+pub(crate) fn class_of(program: &CoreProgram, method: MethodId) -> Option<ClassId>
     ensures { result ≡ method_class (slice_get (program_of program.now).methods method) }
 {
     Some(program.methods().get(method.0 as usize)?.class)
 }
 
 /// What an overriding method tells the one that it overrides, where both are there.
-fn add_kept(
+pub(crate) fn add_kept(
     program: &CoreProgram,
     over: MethodId,
     method: MethodId,

@@ -15,6 +15,7 @@ mod laws;
 mod lookups;
 mod nearest;
 mod overriding;
+mod passing;
 mod relevance;
 mod renaming;
 mod rows_of_overriding;

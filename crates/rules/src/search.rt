@@ -158,7 +158,7 @@ fn has_field(program: &CoreProgram, class: ClassId, field: FieldId) -> bool
 }
 
 /// The fields of a class, its own and those from above; none where it isn't there.
-fn fields_of(program: &CoreProgram, class: ClassId) -> &[FieldId]
+pub(crate) fn fields_of(program: &CoreProgram, class: ClassId) -> &[FieldId]
     ensures { result.now ≡ class_fields (slice_get (program_of program.now).classes class) }
 {
     match program.classes().get(class.0 as usize) {

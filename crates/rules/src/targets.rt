@@ -1,12 +1,14 @@
 //! The pairs of a class: each method that it has, with the one that runs for it.
-ghost use Rattle.std.specs.Prelude.{◌≡◌, true, Some, IfSome, slice_get};
+ghost use Rattle.std.specs.Prelude.{◌≡◌, true, Some, IfOk, IfSome, slice_get};
 ghost use Rattle.core_program.specs.Dispatch.{partner, targets_in, above_of};
 ghost use Rattle.core_program.specs.Views.{program_of};
 ghost use Rattle.rules.specs.Clauses.{ascend};
-ghost use Rattle.rules.specs.Pairs.{targets_above};
+ghost use Rattle.rules.specs.Pairs.{targets_above, DoAscend};
 
+use crate::clauses::ascend;
 use core_program::CoreProgram;
 use paths::{ClassId, MethodId};
+use std::alloc::{AllocError as NoMemory, Global};
 
 /// The pairs of a class, and whether their first methods are known to ascend.
 #[derive(Drop)]
@@ -26,37 +28,11 @@ pub(crate) fn pairs_of(program: &CoreProgram, class: ClassId) -> &[(MethodId, Me
     }
 }
 
-/// The pairs of the class that a class extends; none where it extends none.
-pub(crate) fn pairs_above(program: &CoreProgram, class: ClassId) -> &[(MethodId, MethodId)]
-    ensures { result.now ≡ targets_above (program_of program.now) (above_of (program_of program.now) class) }
-{
-    match above(program, class) {
-        Some(above) => pairs_of(program, above),
-        None => &[],
-    }
-}
-
 /// The class that a class extends, where it is there and extends one.
 fn above(program: &CoreProgram, class: ClassId) -> Option<ClassId>
     ensures { result ≡ above_of (program_of program.now) class }
 {
     program.classes().get(class.0 as usize)?.above
-}
-
-/// Whether the first methods of the pairs ascend, as they do in a typed program.
-fn ascend(pairs: &[(MethodId, MethodId)]) -> bool
-    ensures { result ≡ true → ascend pairs.now ≡ true }
-{
-    let mut rest = pairs;
-    while let Some((first, others)) = rest.split_first() {
-        if let Some(second) = others.first() {
-            if second.0.0 <= first.0.0 {
-                return false;
-            }
-        }
-        rest = others;
-    }
-    true
 }
 
 /// Where a method's pair stands among pairs that ascend, if it has one. What stands there is looked at before it is used.
@@ -96,13 +72,18 @@ fn partner(pairs: &[(MethodId, MethodId)], method: MethodId) -> Option<MethodId>
 }
 
 impl<'a> Targets<'a> {
-    /// These pairs.
-    pub(crate) fn new(pairs: &'a [(MethodId, MethodId)]) -> Targets<'a>
-        ensures { result.pairs.now ≡ pairs.now }
-    {
-        Targets {
-            pairs,
-            is_ascending: ascend(pairs),
+    /// Where the pair of a method is looked for: at this place, if it stands there, else by halves. What stands there is
+    /// looked at before it is used.
+    pub(crate) fn place_near(&self, place: usize, method: MethodId) -> usize {
+        match self.pairs.get(place) {
+            Some(pair) => {
+                if pair.0 == method {
+                    place
+                } else {
+                    place_of(self.pairs, method)
+                }
+            }
+            None => place_of(self.pairs, method),
         }
     }
 
@@ -119,5 +100,80 @@ impl<'a> Targets<'a> {
             }
         }
         partner(self.pairs, method)
+    }
+}
+
+/// Which classes have pairs that are known to ascend.
+fn ascending(alloc: Global, program: &CoreProgram) -> Result<Vec<bool>, NoMemory>
+    ensures { IfOk result (λ ascends. DoAscend (program_of program.now) ascends.items) }
+{
+    let mut ascends = Vec::new(alloc);
+    let count = program.classes().len();
+    for place in 0..count {
+        let pairs = pairs_of(program, class_at(place)?);
+        ascends.push(ascend(pairs))?;
+    }
+    Ok(ascends)
+}
+
+/// The class at a place. There is no memory for more classes than numbers.
+pub(crate) fn class_at(place: usize) -> Result<ClassId, NoMemory>
+    ensures { IfOk result (λ class. class ≡ place) }
+{
+    match u32::try_from(place) {
+        Ok(number) => Ok(ClassId(number)),
+        Err(_) => Err(NoMemory),
+    }
+}
+
+/// A program, with what is known of the pairs of its classes.
+#[derive(Drop)]
+pub(crate) struct Lines<'a> {
+    pub(crate) program: &'a CoreProgram,
+    ascends: Vec<bool>,
+    ghost sound: { DoAscend (program_of program.now) ascends.items },
+}
+
+impl<'a> Lines<'a> {
+    /// Those of this program.
+    pub(crate) fn new(alloc: Global, program: &'a CoreProgram) -> Result<Lines<'a>, NoMemory>
+        ensures { IfOk result (λ lines. program_of lines.program.now ≡ program_of program.now) }
+    {
+        let ascends = ascending(alloc, program)?;
+        Ok(Lines { program, ascends })
+    }
+
+    /// Whether the pairs of a class are known to ascend.
+    fn is_ascending(&self, class: ClassId) -> bool
+        ensures { result ≡ true → ascend (targets_in (slice_get (program_of self.now.program.now).classes class)) ≡ true }
+    {
+        match self.ascends.get(class.0 as usize) {
+            Some(is_ascending) => *is_ascending,
+            None => false,
+        }
+    }
+
+    /// The pairs of a class.
+    pub(crate) fn targets(&self, class: ClassId) -> Targets<'a>
+        ensures { result.pairs.now ≡ targets_in (slice_get (program_of self.now.program.now).classes class) }
+    {
+        let pairs = pairs_of(self.program, class);
+        Targets {
+            pairs,
+            is_ascending: self.is_ascending(class),
+        }
+    }
+
+    /// The pairs of the class that a class extends; none where it extends none.
+    pub(crate) fn targets_above(&self, class: ClassId) -> Targets<'a>
+        ensures { result.pairs.now ≡ targets_above (program_of self.now.program.now) (above_of (program_of self.now.program.now) class) }
+    {
+        match above(self.program, class) {
+            Some(above) => self.targets(above),
+            None => Targets {
+                pairs: &[],
+                is_ascending: false,
+            },
+        }
     }
 }

@@ -7,4 +7,4 @@ pub returns : goal.returns
 returns c =
     let j = c.args.judge.now in
     tells c.are_above_nearest.result (AreAboveNearest j c.in_ok-near.near) (AreOversBelow j)
-    (all_below j c.requires.typed c.requires.relevant c.in_ok-near.near (c.in_ok-near.ensures c.requires.typed)) c.are_above_nearest.ensures
+    (all_below j c.requires.typed c.requires.relevant c.in_ok-near.near c.in_ok-near.ensures) c.are_above_nearest.ensures

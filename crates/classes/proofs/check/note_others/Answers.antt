@@ -13,12 +13,12 @@ returns c =
     others_noted (tree_of c.args.inheritance.now.family.now) c.args.number (class_of c.args.class.now) (map member_of c.as_slice-members.result.now) c.args.inheritance.now.family.now.names.now
     (members_along (tree_of c.args.inheritance.now.family.now) c.args.order.now) c.counts.result c.is_on_circle.result (headings_at (tree_of c.args.inheritance.now.family.now)) c.args.line.now
     c.args.first c.in_ok-found.found c.note_above-found.result c.in_ok-found-2.found c.note_missing_constructor-found.result c.in_ok-found-3.found
-    c.note_missing_run-found.result c.note_excess-found.result c.note_circle-found.result c.note_overrides.result
+    c.note_missing_run-found.result c.note_excess-found.result c.note_circle-found.result c.note_bad_overrides.result
     (ap (map member_of) c.as_slice-members.ensures.value) c.requires.family.names c.requires.order c.counts.ensures c.is_on_circle.ensures refl c.requires.line
     c.in_ok-found.ensures c.note_above-found.ensures c.in_ok-found-2.ensures c.note_missing_constructor-found.ensures c.in_ok-found-3.ensures c.note_missing_run-found.ensures
     (c.note_excess-found.ensures ∙ ap (λ o. noted c.note_missing_run-found.result (too_many_faults o)) c.field_at.ensures)
     c.note_circle-found.ensures
-    (c.note_overrides.ensures ∙ ap (noted c.note_circle-found.result) (same_overrides (tree_of c.args.inheritance.now.family.now) (class_headings (rows_data c.args.inheritance.now.headings.now)) c.args.line.now c.args.number c.requires.rows c.requires.line))
+    (c.note_bad_overrides.ensures ∙ ap (noted c.note_circle-found.result) (same_overrides (tree_of c.args.inheritance.now.family.now) (class_headings (rows_data c.args.inheritance.now.headings.now)) c.args.line.now c.args.number c.requires.rows c.requires.line))
 
 pub note_methods-requires-clause-members : goal.note_methods-requires-clause-members
 note_methods-requires-clause-members c = c.requires.own ∙ sym (ap (map member_of) c.as_slice-members.ensures.value)

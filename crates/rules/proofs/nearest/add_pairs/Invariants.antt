@@ -7,5 +7,5 @@ use Rattle.rules.proofs.nearest.add_pairs.Given as goal
 -- the rows so far and those of the rest are those of all
 abbrev pub invariant-loop-place : goal.invariant-loop-place
 invariant-loop-place l = (m : ℕ) →
-    row_at (rows_of l.rows.items) m ++ pairs_nearest (program_of l.level.program.now) l.level.class l.level.own.pairs.now l.level.above.pairs.now (drop l.place l.pairs) m
-    ≡ row_at (rows_of l.fn.rows.items) m ++ pairs_nearest (program_of l.level.program.now) l.level.class l.level.own.pairs.now l.level.above.pairs.now l.pairs m
+    row_at (rows_of l.rows.items) m ++ pairs_nearest (program_of l.level.lines.now.program.now) l.level.class l.level.own.pairs.now l.level.above.pairs.now (drop l.place l.pairs) m
+    ≡ row_at (rows_of l.fn.rows.items) m ++ pairs_nearest (program_of l.level.lines.now.program.now) l.level.class l.level.own.pairs.now l.level.above.pairs.now l.pairs m

@@ -7,4 +7,4 @@ use Rattle.rules.proofs.nearest.nearest_overriders.Given as goal
 -- the rows so far and those of the classes that are left are those of all
 abbrev pub invariant-loop-place : goal.invariant-loop-place
 invariant-loop-place l = (m : ℕ) →
-    row_at (rows_of l.rows.items) m ++ nearest_from (program_of l.program) l.place (l.count - l.place) m ≡ nearest_from (program_of l.program) 0 l.count m
+    row_at (rows_of l.rows.items) m ++ nearest_from (program_of l.lines.program.now) l.place (l.count - l.place) m ≡ nearest_from (program_of l.lines.program.now) 0 l.count m
