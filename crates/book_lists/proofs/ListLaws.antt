@@ -1,7 +1,7 @@
 -- Lists of nodes: what they list, and how they grow.
 use Rattle.std.proofs.Common.{◌≡◌, ℕ, zero, suc, ◌+◌, ◌-◌, ◌<◌, ◌≤◌, ◌^◌, true, false, List, [], ◌∷◌, ◌++◌, map, length, take, drop, codes, Ok, Err, refl, sym, ◌∙◌, ap, subst, arith, append_assoc, append-nil, length-append}
 use Rattle.std.specs.Prelude.{slice_set, Option, None, Some, IfNone}
-use Rattle.std.proofs.Math.Seq.{set-append_seam}
+use Rattle.std.proofs.Math.Seq.{drop-append_seam, set-append_seam, take-append_seam}
 use Rattle.conditions.specs.Conditions.{cond_of}
 use Rattle.conditions.specs.declared.tree.Tree.{Tree}
 use Rattle.book_lists.specs.declared.listed.ListedBook.{ListedBook}
@@ -24,14 +24,6 @@ use Rattle.book_lists.specs.Listed.{line_head, listed, listed_all, listed_lines,
 
 -- the front of a list, and what is behind it
 
-front_taken : {A : Type 0} (xs ys : List A) → take (length xs) (xs ++ ys) ≡ xs
-front_taken [] ys = refl
-front_taken (x ∷ xs) ys = ap (λ z. x ∷ z) (front_taken xs ys)
-
-front_dropped : {A : Type 0} (xs ys : List A) → drop (length xs) (xs ++ ys) ≡ ys
-front_dropped [] ys = refl
-front_dropped (x ∷ xs) ys = front_dropped xs ys
-
 -- a list has the nodes that are listed in it
 
 pub back_among : (most : ℕ) (ds : Nodes) → length (listed_all ds) ≤ most → unlisted_among most (listed_all ds) ≡ ds
@@ -40,8 +32,8 @@ back_among zero (and_node (node w n ps) ds) few = absurd (omega (arith, few))
 back_among (suc most) no_nodes few = refl
 back_among (suc most) (and_node (node w n ps) ds) few =
     let sizes = length-append (listed_all ps) (listed_all ds) in
-    let inner = ap (unlisted_among most) (front_taken (listed_all ps) (listed_all ds)) ∙ back_among most ps (omega (arith, few, sizes)) in
-    let others = ap (unlisted_among most) (front_dropped (listed_all ps) (listed_all ds)) ∙ back_among most ds (omega (arith, few, sizes)) in
+    let inner = ap (unlisted_among most) (take-append_seam (listed_all ps) (listed_all ds)) ∙ back_among most ps (omega (arith, few, sizes)) in
+    let others = ap (unlisted_among most) (drop-append_seam (listed_all ps) (listed_all ds)) ∙ back_among most ds (omega (arith, few, sizes)) in
     λ i. and_node (node w n (inner i)) (others i)
 
 pub back : (ds : Nodes) → unlisted (listed_all ds) ≡ ds
@@ -63,8 +55,8 @@ first_by x behind (and_node (node w n ps) ds) e =
     let head : x ≡ record { word = w; number = n; below = length (listed_all ps) } = cc in
     let tail : behind ≡ listed_all ps ++ listed_all ds = cc in
     let below : x.below ≡ length (listed_all ps) = ap (λ z. z.below) head in
-    let inner : take x.below behind ≡ listed_all ps = (λ i. take (below i) (tail i)) ∙ front_taken (listed_all ps) (listed_all ds) in
-    let rest : drop x.below behind ≡ listed_all ds = (λ i. drop (below i) (tail i)) ∙ front_dropped (listed_all ps) (listed_all ds) in
+    let inner : take x.below behind ≡ listed_all ps = (λ i. take (below i) (tail i)) ∙ take-append_seam (listed_all ps) (listed_all ds) in
+    let rest : drop x.below behind ≡ listed_all ds = (λ i. drop (below i) (tail i)) ∙ drop-append_seam (listed_all ps) (listed_all ds) in
     record {
       room = omega (arith, below, ap length tail, length-append (listed_all ps) (listed_all ds));
       is = ap unlisted e ∙ back (and_node (node w n ps) ds)
@@ -117,8 +109,8 @@ lines_back (line ∷ lines) = by_body line.id line.number line.body lines (lines
     by_body : (id number : ℕ) (d : Node) (lines : List Line) → unlisted_lines (map line_head lines) (listed_lines lines) ≡ lines →
         unlisted_lines ((id, number) ∷ map line_head lines) (listed d ++ listed_lines lines) ≡ record { id = id; number = number; body = d } ∷ lines
     by_body id number (node w n ds) lines before =
-        let inner = ap unlisted (front_taken (listed_all ds) (listed_lines lines)) ∙ back ds in
-        let rest = ap (unlisted_lines (map line_head lines)) (front_dropped (listed_all ds) (listed_lines lines)) ∙ before in
+        let inner = ap unlisted (take-append_seam (listed_all ds) (listed_lines lines)) ∙ back ds in
+        let rest = ap (unlisted_lines (map line_head lines)) (drop-append_seam (listed_all ds) (listed_lines lines)) ∙ before in
         λ i. record { id = id; number = number; body = node w n (inner i) } ∷ rest i
 
 pub are_listed : (heads : List (ℕ × ℕ)) (nodes : List ListedNode) (lines : List Line) → AreListed heads nodes lines → AreListed heads nodes (unlisted_lines heads nodes)
@@ -136,8 +128,8 @@ first_line_by h hs x behind (line ∷ lines) are =
         let head : x ≡ record { word = w; number = n; below = length (listed_all ds) } = cc in
         let tail : behind ≡ listed_all ds ++ listed_lines lines = cc in
         let below : x.below ≡ length (listed_all ds) = ap (λ z. z.below) head in
-        let inner : take x.below behind ≡ listed_all ds = (λ i. take (below i) (tail i)) ∙ front_taken (listed_all ds) (listed_lines lines) in
-        let rest : drop x.below behind ≡ listed_lines lines = (λ i. drop (below i) (tail i)) ∙ front_dropped (listed_all ds) (listed_lines lines) in
+        let inner : take x.below behind ≡ listed_all ds = (λ i. take (below i) (tail i)) ∙ take-append_seam (listed_all ds) (listed_lines lines) in
+        let rest : drop x.below behind ≡ listed_lines lines = (λ i. drop (below i) (tail i)) ∙ drop-append_seam (listed_all ds) (listed_lines lines) in
         record {
           room = omega (arith, below, ap length tail, length-append (listed_all ds) (listed_lines lines));
           inner_are = is_list (take x.below behind) ds inner;
@@ -182,18 +174,9 @@ no_first_body all hs (x ∷ xs) h heads e = absurd (omega (arith, e))
 
 -- items that are read one after another
 
-started : {A : Type 0} (p : Res (List A)) → p ≡ after_those [] p
-started (Ok y) = refl
-started (Err e) = refl
-
-pub premise_shorter : (count room : ℕ) (text rest : List ℕ) (d : Node) → count ≤ 2 ^ 32 → premise_with (node_at count room) text ≡ Ok (d, rest) → length rest < length text
-premise_shorter count room text rest d small e = premise_takes count (omega (arith, small)) room text d rest e
-
-pub line_shorter_in : (count : ℕ) (text rest : List ℕ) (line : Line) → count ≤ 2 ^ 32 → line_at count text ≡ Ok (line, rest) → length rest < length text
-line_shorter_in count text rest line small e = line_shorter count (omega (arith, small)) text line rest e
-
 pub none_listed : {A B : Type 0} (list : List A → List B) (old : List B) (p : Res (List A)) → list [] ≡ [] → AreListedSoFar list old old p p
-none_listed list old p e = record { so_far = []; read_is = started p; behind = sym (ap (λ z. old ++ z) e ∙ append-nil old) }
+none_listed list old (Ok y) e = record { so_far = []; read_is = refl; behind = sym (ap (λ z. old ++ z) e ∙ append-nil old) }
+none_listed list old (Err fault) e = record { so_far = []; read_is = refl; behind = sym (ap (λ z. old ++ z) e ∙ append-nil old) }
 
 one_listed : {A B : Type 0} (list : List A → List B) (one : A → List B) → ((xs : List A) (x : A) → list (xs ++ (x ∷ [])) ≡ list xs ++ one x) →
     (byte : ℕ) (item : List ℕ → Res A) → Takes item → (old now new : List B) (whole : Res (List A)) (rest behind : List ℕ) →
@@ -226,7 +209,7 @@ pub premise_listed : (count room : ℕ) (old now new : List ListedNode) (whole :
     IsListedAs listed now new (premise_with (node_at count room) rest) behind →
     AreListedSoFar (λ ds. listed_all (nodes_from ds)) old new whole (several 32 (premise_with (node_at count room)) behind)
 premise_listed count room old now new whole rest behind small before go read =
-    one_listed (λ ds. listed_all (nodes_from ds)) listed premises_split 32 (premise_with (node_at count room)) (λ ts x r is. premise_shorter count room ts r x small is) old now new whole rest behind before go read
+    one_listed (λ ds. listed_all (nodes_from ds)) listed premises_split 32 (premise_with (node_at count room)) (λ ts x r is. premise_takes count (omega (arith, small)) room ts x r is) old now new whole rest behind before go read
 
 pub all_premises_listed : (count room : ℕ) (old now : List ListedNode) (whole : Res (List Node)) (rest : List ℕ) →
     AreListedSoFar (λ ds. listed_all (nodes_from ds)) old now whole (several 32 (premise_with (node_at count room)) rest) → begins 32 rest ≡ false →
@@ -248,14 +231,14 @@ pub head_listed : (count : ℕ) (old now new : List (ℕ × ℕ)) (whole : Res (
     IsListedAs (λ line. line_head line ∷ []) now new (line_at count rest) behind →
     AreListedSoFar (map line_head) old new whole (several 109 (line_at count) behind)
 head_listed count old now new whole rest behind small before go read =
-    one_listed (map line_head) (λ line. line_head line ∷ []) heads_split 109 (line_at count) (λ ts x r is. line_shorter_in count ts r x small is) old now new whole rest behind before go read
+    one_listed (map line_head) (λ line. line_head line ∷ []) heads_split 109 (line_at count) (λ ts x r is. line_shorter count (omega (arith, small)) ts x r is) old now new whole rest behind before go read
 
 pub line_listed : (count : ℕ) (old now new : List ListedNode) (whole : Res (List Line)) (rest behind : List ℕ) → count ≤ 2 ^ 32 →
     AreListedSoFar listed_lines old now whole (several 109 (line_at count) rest) → begins 109 rest ≡ true →
     IsListedAs (λ line. listed line.body) now new (line_at count rest) behind →
     AreListedSoFar listed_lines old new whole (several 109 (line_at count) behind)
 line_listed count old now new whole rest behind small before go read =
-    one_listed listed_lines (λ line. listed line.body) lines_split 109 (line_at count) (λ ts x r is. line_shorter_in count ts r x small is) old now new whole rest behind before go read
+    one_listed listed_lines (λ line. listed line.body) lines_split 109 (line_at count) (λ ts x r is. line_shorter count (omega (arith, small)) ts x r is) old now new whole rest behind before go read
 
 pub all_heads_listed : (count : ℕ) (old now : List (ℕ × ℕ)) (whole : Res (List Line)) (rest : List ℕ) →
     AreListedSoFar (map line_head) old now whole (several 109 (line_at count) rest) → begins 109 rest ≡ false → IsListedAs (map line_head) old now whole rest

@@ -7,6 +7,7 @@ use Rattle.std.proofs.lemmas.Bool.{eqb-true, eq-eqb, false_from_ne_true}
 use Rattle.std.proofs.lemmas.Option.{none-some, same_Some}
 use Rattle.std.proofs.lemmas.List.{drop_all}
 use Rattle.std.proofs.lemmas.List.Folds.{list_any-append}
+use Rattle.std.proofs.Math.Seq.{drop-append_seam}
 use Rattle.paths.specs.Paths.{PathData, path_eq, extended, most_fields}
 use Rattle.paths.specs.Renamings.{under_call}
 use Rattle.paths.proofs.PathOrder.{eq_is, is_eq}
@@ -83,10 +84,6 @@ if_chosen : {A : Type 0} (b : Bool) (x y : A) → (if b then Some x else None) �
 if_chosen true x y e = (refl, same_Some x y e)
 if_chosen false x y e = absurd (none-some y e)
 
-dropped_all : {A : Type 0} (xs ys : List A) → drop (length xs) (xs ++ ys) ≡ ys
-dropped_all [] ys = refl
-dropped_all (x ∷ xs) ys = dropped_all xs ys
-
 -- whether a path is this one, if there is one
 abbrev names_it : PathData → Option PathData → Bool
 names_it p None = false
@@ -124,7 +121,7 @@ module _ (x : ℕ) (start : PathData) (q : PathData) (rooted : (q.root == x) ≡
   to_name : (p : PathData) → names_it p (extended start q.fields) ≡ true → is_path (name_from_local x start p) q ≡ true
   to_name p held =
       let is = found_path (extended start q.fields) p held in
-      let fields : drop (length start.fields) p.fields ≡ q.fields = ap (drop (length start.fields)) (sym (extended_fields p is)) ∙ dropped_all start.fields q.fields in
+      let fields : drop (length start.fields) p.fields ≡ q.fields = ap (drop (length start.fields)) (sym (extended_fields p is)) ∙ drop-append_seam start.fields q.fields in
       let test : is_path (extended start (drop (length start.fields) p.fields)) p ≡ true = ap (λ fs. is_path (extended start fs) p) fields ∙ ap (λ o. is_path o p) is ∙ is_eq p p refl in
       let path : record { root = x; fields = drop (length start.fields) p.fields } ≡ q = λ i. record { root = sym (eqb-true q.root x rooted) i; fields = fields i } in
       ap (λ b. is_path (if b then Some (record { root = x; fields = drop (length start.fields) p.fields }) else None) q) test ∙ is_eq (record { root = x; fields = drop (length start.fields) p.fields }) q path

@@ -15,12 +15,10 @@ use Rattle.reduction.proofs.SoundRuns.{sound_run}
 use Rattle.semantics.specs.Step.{Change, Nothing, FieldIs, ObjectIs, LockIs, Prints, Starts, changed}
 use Rattle.state.specs.declared.value.StepKind.{StepKind}
 use Rattle.state.specs.States.{Ready}
-use Rattle.machine.specs.Likeness.{ThreadsStand, no_threads, more_threads}
+use Rattle.machine.proofs.Simulation.{threads_long}
 use Rattle.machine.specs.MachineValue.{MachineValue}
 use Rattle.machine.specs.Standing.{StandsFor, HasRun, program_run}
-use Rattle.state.specs.States.{Thread, ThreadOf}
-use Rattle.state.specs.Frames.{CodeFrame, code_thread}
-use Rattle.compile.specs.declared.stack.Code.{Code}
+use Rattle.state.specs.Frames.{code_thread}
 use Rattle.library.specs.Seen.{IsSeen}
 use Rattle.library.specs.Exchanged.{exchanged, AreNeighbours, IsStartOf, ArePassed}
 
@@ -136,10 +134,6 @@ seen_is q t u m n first second before after b a f s =
     record { first = f; second = s; starts = subst (λ x. ((nat_lt x after && (u == x)) ≡ true) ↔ IsStartOf q m u) (sym b) (subst (λ y. ((nat_lt (length q.threads) y && (u == length q.threads)) ≡ true) ↔ IsStartOf q m u) (sym a) h) }
 
 -- a machine has as many threads as a state that it stands for
-threads_long : (P : Program) (code : List Code) (cs : List (ThreadOf CodeFrame)) (ts : List Thread) → ThreadsStand P code cs ts → length cs ≡ length ts
-threads_long P code _ _ no_threads = refl
-threads_long P code _ _ (more_threads c t cs ts one more) = ap suc (threads_long P code cs ts more)
-
 pub stands_long : (m : MachineValue) (q : State) → StandsFor m q → length m.state.threads ≡ length q.threads
 stands_long m q h = sym (length-map m.state.threads code_thread) ∙ threads_long (program_run m) m.code.code.items _ q.threads h.threads
 

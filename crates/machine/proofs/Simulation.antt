@@ -28,7 +28,7 @@ use Rattle.machine.specs.declared.deed.Deed.{Deed}
 use Rattle.machine.specs.declared.deed.Deed.TheVariants as deed
 use Rattle.machine.specs.CodeMachine as C
 use Rattle.machine.specs.CodeMachine.{code_frame_at, deed_of, deed_at, done, code_turn}
-use Rattle.machine.specs.Likeness.{with_work, IsLeft, FramesStand, no_frames, more_frames, ThreadStands, ready_stands, running_stands, done_stands, faulted_stands}
+use Rattle.machine.specs.Likeness.{with_work, IsLeft, FramesStand, no_frames, more_frames, ThreadsStand, no_threads, more_threads, ThreadStands, ready_stands, running_stands, done_stands, faulted_stands}
 
 -- outcomes that stand for outcomes: of the same kind and change, with threads that stand for threads
 pub data OutcomeStands (P : Program) (code : List Code) : OutcomeOf CodeFrame → Outcome → Type 0 where
@@ -47,6 +47,11 @@ same_place (z ∷ xs) (y ∷ ys) zero x e is = (y, refl)
 same_place (z ∷ xs) (y ∷ ys) (suc m) x e is = same_place xs ys m x (omega arith) is
 
 -- frames that stand for frames are as many
+-- there are as many threads as those that they stand for
+pub threads_long : (P : Program) (code : List Code) (cs : List (ThreadOf CodeFrame)) (ts : List Thread) → ThreadsStand P code cs ts → length cs ≡ length ts
+threads_long P code _ _ no_threads = refl
+threads_long P code _ _ (more_threads c t cs ts one more) = ap suc (threads_long P code cs ts more)
+
 pub as_high : (P : Program) (code : List Code) (fs : List CodeFrame) (gs : List Frame) → FramesStand P code fs gs → length fs ≡ length gs
 as_high P code _ _ no_frames = refl
 as_high P code _ _ (more_frames f work fs gs left stand) = ap suc (as_high P code fs gs stand)

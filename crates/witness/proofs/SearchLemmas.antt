@@ -2,6 +2,7 @@
 use Rattle.std.proofs.Common.{◌≡◌, ℕ, zero, suc, ◌+◌, ◌<◌, ◌≤◌, ◌==◌, Bool, true, false, List, [], ◌∷◌, ◌++◌, length, get_or, refl, sym, ap, subst, ◌∙◌, arith, append-nil}
 use Rattle.std.proofs.Common.{inl, inr}
 use Rattle.std.specs.Prelude.{Option, Some, None, Result, IfOk, nat_lt, slice_get, map, Vec}
+use Rattle.std.proofs.lemmas.List.{length-map}
 use Rattle.std.proofs.lemmas.Result.{IfOk-weaker}
 use Rattle.std.specs.declared.alloc.Global.{Global}
 use Rattle.std.specs.declared.alloc.AllocError.{AllocError}
@@ -10,11 +11,10 @@ use Rattle.std.proofs.lemmas.Bool.{eqb-true, ltb-true, ltb-false}
 use Rattle.std.proofs.lemmas.Bool.Decides.{nat_tests}
 use Rattle.base.proofs.Lists.{at_left, at_either, get_last, get_below}
 use Rattle.core_program.specs.Core.{Program}
-use Rattle.state.specs.States.{State, ThreadOf, Thread, initial}
-use Rattle.state.specs.Frames.{CodeFrame, code_thread}
+use Rattle.state.specs.States.{State, initial}
+use Rattle.state.specs.Frames.{code_thread}
 use Rattle.semantics.specs.Step.{step, state_after, turn, seen_by}
-use Rattle.compile.specs.declared.stack.Code.{Code}
-use Rattle.machine.specs.Likeness.{ThreadsStand, no_threads, more_threads}
+use Rattle.machine.proofs.Simulation.{threads_long}
 use Rattle.machine.specs.Standing.{program_run}
 use Rattle.witness.specs.Walks.{walk, must_step_next, entry_counts, less, none_left}
 use Rattle.witness.proofs.UnseenWalks.{none_kept_up_to, none_reached_up_to}
@@ -97,21 +97,13 @@ first_set s nodes old n none is start = (0, n, ap (λ xs. slice_get xs 0) (is �
 
 -- Threads that aren't there.
 
-threads_long : (P : Program) (code : List Code) (cs : List (ThreadOf CodeFrame)) (ts : List Thread) → ThreadsStand P code cs ts → length cs ≡ length ts
-threads_long P code [] _ no_threads = refl
-threads_long P code (c ∷ cs) _ (more_threads _ t _ ts one more) = ap suc (threads_long P code cs ts more)
-
 absent_waits : (P : Program) (q : State) (t : ℕ) → slice_get q.threads t ≡ None → step P q t ≡ None
 absent_waits P q t gone = ap (λ c. state_after q t (turn P (seen_by t q) t c)) gone
-
-length-map : {A B : Type 0} (f : A → B) (xs : List A) → length (map f xs) ≡ length xs
-length-map f [] = refl
-length-map f (x ∷ xs) = ap suc (length-map f xs)
 
 pub absent_leads : (s : Search) (nodes : List Node) (n : Node) (t : ℕ) → length n.machine.state.threads ≤ t → LeadsIn s nodes n t
 absent_leads s nodes n t past q busy left next h allowed may steps =
     let long = threads_long (program_run n.machine) n.machine.code.code.items (map code_thread n.machine.state.threads) q.threads h.stands.threads in
-    let many = length-map code_thread n.machine.state.threads in
+    let many = length-map n.machine.state.threads code_thread in
     let gone : slice_get q.threads t ≡ None = slice_get_past q.threads t (omega (arith, past, long, many)) in
     absurd (let e : None ≡ Some next = sym (absent_waits (searched s) q t gone) ∙ steps in cc)
 

@@ -5,7 +5,8 @@ use Rattle.books.specs.Combine.{several}
 use Rattle.books.specs.Derivations.{nodes_from}
 use Rattle.book_lists.specs.Listed.{listed, listed_all, IsListedAs}
 use Rattle.books.specs.Reading.{node_at, premise_with}
-use Rattle.book_lists.proofs.ListLaws.{all_premises_listed, node_inside, node_listed, none_listed, premise_listed, premise_one, premise_shorter}
+use Rattle.books.proofs.PassLemmas.{premise_takes}
+use Rattle.book_lists.proofs.ListLaws.{all_premises_listed, node_inside, node_listed, none_listed, premise_listed, premise_one}
 use Rattle.book_lists.proofs.list_reader.+listing.Goals as goal
 
 pub list_premises-premises-init : goal.list_premises-premises-init
@@ -19,7 +20,7 @@ list_premises-premises-preserved t c =
 
 pub list_premises-premises-smaller : goal.list_premises-premises-smaller
 list_premises-premises-smaller t c =
-    premise_shorter c.args.end c.args.room c.premises.rest.now c.in_ok-rest.rest.now c.in_ok-rest.ensures.what c.requires c.in_ok-rest.ensures.read_is
+    premise_takes c.args.end (omega (arith, c.requires)) c.args.room c.premises.rest.now c.in_ok-rest.ensures.what c.in_ok-rest.rest.now c.in_ok-rest.ensures.read_is
 
 pub list_premises-returns : goal.list_premises-returns
 list_premises-returns t c =

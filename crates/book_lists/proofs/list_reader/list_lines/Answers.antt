@@ -1,9 +1,10 @@
 -- One line more, and all of them.
-use Rattle.std.proofs.Common.{refl, sym, ◌∙◌, map}
+use Rattle.std.proofs.Common.{refl, sym, ◌∙◌, map, arith}
 use Rattle.books.specs.Combine.{several}
 use Rattle.book_lists.specs.Listed.{line_head, listed_lines}
 use Rattle.books.specs.Reading.{line_at}
-use Rattle.book_lists.proofs.ListLaws.{all_heads_listed, all_lines_listed, head_listed, line_listed, line_shorter_in, none_listed}
+use Rattle.books.proofs.PassBooks.{line_shorter}
+use Rattle.book_lists.proofs.ListLaws.{all_heads_listed, all_lines_listed, head_listed, line_listed, none_listed}
 use Rattle.book_lists.proofs.list_reader.list_lines.Goals as goal
 
 pub lines-init : goal.lines-init
@@ -21,7 +22,7 @@ lines-preserved c =
 
 pub lines-smaller : goal.lines-smaller
 lines-smaller c =
-    line_shorter_in c.args.end c.lines.rest.now c.in_ok-rest.rest.now c.in_ok-rest.ensures.heads.what c.requires c.in_ok-rest.ensures.heads.read_is
+    line_shorter c.args.end (omega (arith, c.requires)) c.lines.rest.now c.in_ok-rest.ensures.heads.what c.in_ok-rest.rest.now c.in_ok-rest.ensures.heads.read_is
 
 pub returns-clause-heads : goal.returns-clause-heads
 returns-clause-heads c =
