@@ -1,7 +1,7 @@
 -- A method is given a rank.
-use Rattle.std.proofs.Common.{◌≡◌, ◌≢◌, ◌⊎◌, ℕ, zero, suc, ◌+◌, ◌-◌, ◌<◌, ◌≤◌, ◌==◌, Bool, true, false, not, ◌||◌, List, [], ◌∷◌, Option, Some, None, length, slice_get, slice_set, refl, sym, ap, subst, ◌∙◌, if◌then◌else◌, arith, inl, inr}
+use Rattle.std.proofs.Common.{◌≡◌, ◌≢◌, ◌⊎◌, ℕ, zero, suc, ◌+◌, ◌-◌, ◌<◌, ◌≤◌, ◌==◌, Bool, true, false, List, [], ◌∷◌, Option, Some, None, length, slice_get, slice_set, refl, sym, ap, subst, ◌∙◌, if◌then◌else◌, arith, inl, inr}
 use Rattle.std.specs.Prelude.{nat_le, nat_lt}
-use Rattle.std.proofs.lemmas.Bool.{and_parts, eqb-true, eqb-false, le-leb, ltb-true, false≢true, or_left, or_right, not_from_false}
+use Rattle.std.proofs.lemmas.Bool.{and_parts, eqb-true, eqb-false, le-leb, ltb-true, false≢true}
 use Rattle.std.proofs.lemmas.Option.{same_Some, none-some, slice_get_within}
 use Rattle.base.proofs.Lists.{set_here, set_other}
 use Rattle.paths.specs.Paths.{PathData}
@@ -15,7 +15,7 @@ use Rattle.explain.specs.declared.ranking.Bounds.{Bounds}
 use Rattle.explain.specs.Explaining.{why_of}
 use Rattle.explain.specs.Grounds.{lead_at, lead_in_row, level_at, level_in_row, lowered, lowered_if, rank_at, rank_in_row, why_by, why_from}
 use Rattle.explain.specs.Leads.{IsLevel, IsMoreThanLimit, is_grounded_by, is_reason, reason_lead, leads_below, limit_for}
-use Rattle.explain.specs.Ranking.{AreRanked, ground_by, ground_with, is_stuck_at, known_reason, may_rank, open_rank}
+use Rattle.explain.specs.Ranking.{AreRanked, ground_by, ground_with, known_reason, may_rank, open_rank}
 use Rattle.explain.specs.Whys.{WhyData}
 
 length_set : {X : Type 0} (xs : List X) (m : ℕ) (x : X) → length (slice_set xs m x) ≡ length xs
@@ -219,25 +219,6 @@ known_next bounds P rel A overs grounds m method row level round inside late low
           lead = λ other more. ap (λ x. reason_lead P rel (known_reason P rel A overs grounds level round m x)) (same_Some method other (sym there ∙ more.there));
           level = λ other more. (atomic, ap (λ x. is_reason (known_reason P rel A overs grounds level round m x)) (sym (same_Some method other (sym there ∙ more.there))) ∙ parts.0);
         }) ranked)
-
--- a method that has a rank, or no such reason
-pub stuck_ranked : (P : Program) (rel : ℕ → List PathData) (A : Assignment) (overs : ℕ → List ℕ) (grounds : List Ground) (m : ℕ) (method : Method) (level : Basic) (round : ℕ) → (rank_at grounds m == open_rank) ≡ false
-    → is_stuck_at P rel A overs grounds level round m method ≡ true
-stuck_ranked P rel A overs grounds m method level round is =
-    or_left (not (rank_at grounds m == open_rank)) (not (is_grounded_by P rel grounds round (known_reason P rel A overs grounds level round m method))) (not_from_false (rank_at grounds m == open_rank) is)
-
-pub stuck_none : (P : Program) (rel : ℕ → List PathData) (A : Assignment) (overs : ℕ → List ℕ) (grounds : List Ground) (m : ℕ) (method : Method) (level : Basic) (round : ℕ) → ground_by P rel A overs grounds level round m method ≡ None
-    → is_stuck_at P rel A overs grounds level round m method ≡ true
-stuck_none P rel A overs grounds m method level round none =
-    by (is_grounded_by P rel grounds round why) refl none
-  where
-    why : WhyData
-    why = known_reason P rel A overs grounds level round m method
-
-    by : (t : Bool) → is_grounded_by P rel grounds round why ≡ t → (if t then Some (ground_with round (Some level) (reason_lead P rel why)) else None) ≡ None
-        → (not (rank_at grounds m == open_rank) || not (is_grounded_by P rel grounds round why)) ≡ true
-    by true test is = absurd (none-some (ground_with round (Some level) (reason_lead P rel why)) (sym is))
-    by false test is = or_right (not (rank_at grounds m == open_rank)) (not (is_grounded_by P rel grounds round why)) (not_from_false (is_grounded_by P rel grounds round why) test)
 
 -- a row that may have the rank
 pub led_row : (bounds : Bounds) (P : Program) (rel : ℕ → List PathData) (A : Assignment) (overs : ℕ → List ℕ) (grounds : List Ground) (m : ℕ) (row : Ground) (round : ℕ) (o : Option Ground) → slice_get grounds m ≡ o
