@@ -86,7 +86,7 @@ static ASKED: [(&[&str], u8, &str); 11] = [
 ];
 
 /// The names of files, each with the source in it.
-static FILES: [(&str, &str); 5] = [
+static FILES: [(&str, &str); 6] = [
     ("a", LOCKED),
     (
         "b",
@@ -101,12 +101,16 @@ static FILES: [(&str, &str); 5] = [
         "f",
         "class Counter { int n; void set() { this.n = 1; } int get() { return this.n; } void again() { this.n = 2; } } class Main { void main() { } }",
     ),
+    (
+        "g",
+        "class Main { int a; void main() { this.a = 1; this.a = 2; } void f() { this.main(); } }",
+    ),
 ];
 
 /// Words that name some of these files, and one that isn't there, each with its status and text: the worst status, and all lines in the order
 /// of the words. Of `e` one method, which promises nothing, isn't atomic, and neither is `main`. Of `f` each is, and a field that nothing guards
-/// is written.
-static SEVERAL: [(&[&str], u8, &str); 8] = [
+/// is written. Of `g` one method calls `main`, which is compound and is told behind it.
+static SEVERAL: [(&[&str], u8, &str); 9] = [
     (&["a", "a", "a"], 0, ""),
     (
         &["b", "a"],
@@ -133,6 +137,11 @@ static SEVERAL: [(&[&str], u8, &str); 8] = [
         &["--strict", "f"],
         0,
         "f:1:37: warning: Counter.n is written, and nothing guards it [unguarded-field]\n",
+    ),
+    (
+        &["--strict", "g"],
+        2,
+        "g:1:66: error: Main.f counts as atomic, found cmpd [compound-call]\ng:1:77: note: compound step: calls Main.main, which is cmpd [compound-step]\ng:1:77: note: inside it another thread may come in [gap-inside]\ng:1:77: note: no one lock that has a name here helps this step [help-none-named]\ng:1:26: note: Main.main is cmpd [two-steps]\ng:1:35: note: atomic step: writes this.a, which nothing guards [first-step]\ng:1:47: note: a second one: writes this.a, which nothing guards [second-step]\ng:1:47: note: between the two another thread may come in [gap-between]\ng:1:35: note: no lock helps this step: nothing guards the field [help-unguarded]\ng:1:47: note: no lock helps this step: nothing guards the field [help-unguarded]\ng:1:35: warning: Main.a is written, and nothing guards it [unguarded-field]\n",
     ),
     (
         &["--all", "a", "c"],

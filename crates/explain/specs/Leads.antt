@@ -15,7 +15,7 @@ use Rattle.explain.specs.Explaining.{is_error_of_part}
 use Rattle.explain.specs.Grounds.{level_at, rank_at, why_by}
 use Rattle.explain.specs.Meanings.{IsReasonOf}
 use Rattle.explain.specs.Programs.{called_by, found_of, keeps}
-use Rattle.explain.specs.Strict.{strict_bound}
+use Rattle.explain.specs.Strict.{strict_limit}
 use Rattle.explain.specs.Whys.{WhyData, ExplainedData, Wrong, Looped, Compound, Two, Overridden, Nothing}
 
 -- the method by which another is what it is: the one that its compound step calls, that overrides it, or that is an error itself and is
@@ -48,7 +48,7 @@ told_limit A m method = if keeps A m method then Atomic else declared_bound meth
 -- the same by which bounds are asked for
 abbrev pub limit_for : Bounds → Program → Assignment → ℕ → Method → Basic
 limit_for Declared P A m method = told_limit A m method
-limit_for Strict P A m method = strict_bound P m method
+limit_for Strict P A m method = strict_limit P A m method
 
 -- a method of the program that has more than that
 pub record IsMoreThanLimit (bounds : Bounds) (P : Program) (A : Assignment) (m : ℕ) (method : Method) : Type 0 where

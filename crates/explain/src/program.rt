@@ -43,7 +43,7 @@ pub(crate) fn called_by(part: CorePart<'_>) -> Option<MethodId>
 }
 
 /// The method by which an explained one is what it is: the one that its step calls, or that overrides it.
-fn led_to(why: &Why<'_>) -> Option<MethodId>
+pub(crate) fn led_to(why: &Why<'_>) -> Option<MethodId>
     ensures { result ≡ led_to (why_data why.now) }
 {
     match why {

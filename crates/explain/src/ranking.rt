@@ -16,7 +16,7 @@ ghost use Rattle.explain.specs.Ranking.{AreAllRanked, AreRanked, AreStuck, first
 use crate::explaining::why_more;
 use crate::grounds::{Ground, Lowered, is_reason, leads_below, rank_at, reason_lead, why_known};
 use crate::program::keeps;
-use crate::strict::strict_bound;
+use crate::strict::strict_limit;
 use crate::walk::Walk;
 use algebra::Basic;
 use core_program::CoreMethod;
@@ -53,7 +53,7 @@ fn limit_for<A: Assigned>(
 {
     match bounds {
         Bounds::Declared => told_limit(walk, id, method),
-        Bounds::Strict => strict_bound(walk.program, id, method),
+        Bounds::Strict => strict_limit(walk, id, method),
     }
 }
 

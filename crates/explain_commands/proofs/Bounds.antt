@@ -1,5 +1,5 @@
 -- How it ends, and what is told, by which bounds are asked for.
-use Rattle.std.proofs.Common.{◌≡◌, ℕ, ◌+◌, Bool, true, false, List, [], ◌∷◌, ◌++◌, Contains, Option, Some, None, if◌then◌else◌, length, slice_get, refl, sym, ap, ◌∙◌}
+use Rattle.std.proofs.Common.{◌≡◌, ℕ, ◌+◌, Bool, true, false, List, [], ◌∷◌, ◌++◌, Contains, Option, Some, None, if◌then◌else◌, filter, length, map, slice_get, refl, sym, ap, ◌∙◌}
 use Rattle.std.proofs.lemmas.Option.{slice_get_within}
 use Rattle.algebra.specs.declared.basic.Basic.{Basic}
 use Rattle.algebra.specs.Basics.{below_of}
@@ -11,13 +11,13 @@ use Rattle.explain.specs.Causes.{cause_of}
 use Rattle.effects.specs.Parts.{StmtP}
 use Rattle.explain.specs.Grounds.{level_at}
 use Rattle.explain.specs.Leads.{AreGrounded, IsReasonChain, IsReasonBy}
-use Rattle.explain.specs.Programs.{explained}
+use Rattle.explain.specs.Programs.{compound, explained}
 use Rattle.explain.specs.Ranking.{AreAllRanked}
-use Rattle.explain.specs.Strict.{keep_all, keeps_strictly, strict_bound, strict_from, strictly_broken, strictly_broken_from}
+use Rattle.explain.specs.Strict.{led_entries_from, is_passed, keep_all, keeps_strictly, refused_strictly, strict_bound, strict_from, strictly_broken, strictly_broken_from}
 use Rattle.explain.specs.Visits.{Visit, part_visits}
 use Rattle.explain.specs.declared.grounds.Ground.{Ground}
 use Rattle.explain.specs.Whys.{ExplainedData, Wrong}
-use Rattle.explain.proofs.Strictly.{none_broken_strictly, none_strict, some_broken_strictly}
+use Rattle.explain.proofs.Strictly.{none_broken_strictly, none_explained, some_broken_strictly}
 use Rattle.explain.proofs.Telling.{IsRest, rest_first, rest_next, whole}
 use Rattle.paths.specs.Paths.{PathData}
 use Rattle.reasons.specs.Causing.{IsCause}
@@ -104,25 +104,61 @@ module _ (P : Program) (rel : ℕ → List PathData) (A : Assignment) (overs : �
       by true rest = rest
       by false rest = (slice_get_within P.methods m method (rest_first P rel A overs grounds m method methods r), rest)
 
+  -- none of those behind them is refused, and all are there
+  none_refused : (led : List ExplainedData) (methods : List Method) (m : ℕ) → refused_in (led_entries_from P rel A overs grounds led m methods) ≡ []
+  none_refused led [] m = refl
+  none_refused led (method ∷ methods) m = by (is_passed P A led m method) (none_refused led methods (m + 1))
+    where
+      by : (b : Bool) → refused_in (led_entries_from P rel A overs grounds led (m + 1) methods) ≡ []
+          → refused_in ((if b then [] else compound P rel A overs grounds m method ∷ []) ++ led_entries_from P rel A overs grounds led (m + 1) methods) ≡ []
+      by true rest = rest
+      by false rest = rest
+
+  refused_both : (xs ys : List ExplainedData) → refused_in ys ≡ [] → refused_in (xs ++ ys) ≡ refused_in xs
+  refused_both [] ys none = none
+  refused_both (x ∷ xs) ys none = by x.is_refused (refused_both xs ys none)
+    where
+      by : (b : Bool) → refused_in (xs ++ ys) ≡ refused_in xs → map (λ z. z.method) (if b then x ∷ filter (λ z. z.is_refused) (xs ++ ys) else filter (λ z. z.is_refused) (xs ++ ys))
+          ≡ map (λ z. z.method) (if b then x ∷ filter (λ z. z.is_refused) xs else filter (λ z. z.is_refused) xs)
+      by true rest = ap (λ ms. x.method ∷ ms) rest
+      by false rest = rest
+
+  entries_there : (led : List ExplainedData) (methods : List Method) (m : ℕ) → IsRest P rel A overs grounds m methods → AreAmongMethods (length P.methods) (led_entries_from P rel A overs grounds led m methods)
+  entries_there led [] m r = tt
+  entries_there led (method ∷ methods) m r = by (is_passed P A led m method) (entries_there led methods (m + 1) (rest_next P rel A overs grounds m method methods r))
+    where
+      by : (b : Bool) → AreAmongMethods (length P.methods) (led_entries_from P rel A overs grounds led (m + 1) methods)
+          → AreAmongMethods (length P.methods) ((if b then [] else compound P rel A overs grounds m method ∷ []) ++ led_entries_from P rel A overs grounds led (m + 1) methods)
+      by true rest = rest
+      by false rest = (slice_get_within P.methods m method (rest_first P rel A overs grounds m method methods r), rest)
+
+  among_both : (n : ℕ) (xs ys : List ExplainedData) → AreAmongMethods n xs → AreAmongMethods n ys → AreAmongMethods n (xs ++ ys)
+  among_both n [] ys one other = other
+  among_both n (x ∷ xs) ys one other = (one.0, among_both n xs ys one.1 other)
+
   -- ---- by what is asked for
 
   -- the explanations are of exactly the methods that break their bounds
   pub exactly_for : (order : Order) → refused_in (explanations_for order P rel A overs grounds) ≡ broken_for order P A
   exactly_for Why = exactly_broken P rel A overs grounds
   exactly_for All = exactly_broken P rel A overs grounds
-  exactly_for Strict = strictly_refused P.methods 0
+  exactly_for Strict =
+      let led = refused_strictly P rel A overs grounds in
+      refused_both led (led_entries_from P rel A overs grounds led 0 P.methods) (none_refused led P.methods 0) ∙ strictly_refused P.methods 0
 
   -- and all their methods are there
   pub there_for : (order : Order) → AreAmongMethods (length P.methods) (explanations_for order P rel A overs grounds)
   there_for Why = all_there P rel A overs grounds
   there_for All = all_there P rel A overs grounds
-  there_for Strict = strictly_there P.methods 0 (whole P rel A overs grounds)
+  there_for Strict =
+      let led = refused_strictly P rel A overs grounds in
+      among_both (length P.methods) led (led_entries_from P rel A overs grounds led 0 P.methods) (strictly_there P.methods 0 (whole P rel A overs grounds)) (entries_there led P.methods 0 (whole P rel A overs grounds))
 
   -- where none breaks its bound, nothing is explained
   pub nothing_for : (order : Order) → broken_for order P A ≡ [] → explanations_for order P rel A overs grounds ≡ []
   nothing_for Why none = nothing_explained P rel A overs grounds none
   nothing_for All none = nothing_explained P rel A overs grounds none
-  nothing_for Strict none = none_strict P rel A overs grounds P.methods 0 none
+  nothing_for Strict none = none_explained P rel A overs grounds none
 
 module _ (P : Program) (sets : List MethodPaths) (A : Assignment) (rows : List (List ℕ)) (typed : IsTyped P) (least : HasLeast P sets A) (are : AreOverriders P rows) where
   -- each method that is more than it may be has a rank

@@ -151,5 +151,9 @@ call_visit n m = at n (ExprP (CallE ThisE m no_exprs)) nothing_held None
 abbrev pub callers : Program
 callers = record shelf { methods = plain_method 0 100 false (block_of (run_method 1)) ∷ plain_method 0 101 false (block_of (run_method 0)) ∷ [] }
 
+-- `void f() { this.main(); } void main() { this.a = 1; this.a = 1; }`, both compound
+abbrev pub calling_main : Program
+calling_main = record shelf { methods = plain_method 0 100 false (block_of (run_method 1)) ∷ plain_method 0 101 false puts ∷ []; main = 1 }
+
 abbrev pub all_compound : Assignment
 all_compound m H = Cmpd

@@ -46,7 +46,7 @@ pub fn what_is_known()
     ensures reasons { map is_reason (Nothing ∷ Wrong (write_visit 1 None) ∷ Two (call_visit 1 7) (call_visit 2 7) ∷ []) ≡ false ∷ true ∷ true ∷ [] }
     ensures grounded { map (is_grounded_by circle shelf_paths circle_ranks 2) (Nothing ∷ Compound (call_visit 1 0) ∷ Compound (call_visit 1 1) ∷ []) ≡ false ∷ true ∷ false ∷ [] }
     ensures limits { map (λ m. limit_for Declared locking_program all_compound m (plain_method 0 0 false locked_put)) (0 ∷ []) ≡ Atomic ∷ [] }
-    ensures strict { map (λ m. limit_for Strict locking_program all_compound m (plain_method 0 0 false locked_put)) (0 ∷ 1 ∷ []) ≡ Atomic ∷ Cmpd ∷ [] }
+    ensures strict { map (λ m. limit_for Strict locking_program (λ k H. Error) m (plain_method 0 0 false locked_put)) (0 ∷ 1 ∷ []) ≡ Atomic ∷ Cmpd ∷ [] }
 {}
 
 /// Of two steps the one first that is done first.

@@ -38,7 +38,7 @@ use Rattle.explain.specs.Meanings.{are_within, IsReasonOf}
 use Rattle.explain.specs.PartEffects.{own_of}
 use Rattle.explain.specs.Programs.{called_by, found_of, keeps}
 use Rattle.explain.specs.Ranking.{AreAllRanked, open_rank}
-use Rattle.explain.specs.Strict.{is_thread_entry}
+use Rattle.explain.specs.Strict.{is_thread_entry, keeps_strictly}
 use Rattle.explain.specs.Whys.{WhyData, Wrong, Looped, Compound, Two, Overridden, Nothing}
 use Rattle.explain.proofs.Meant.{meant}
 use Rattle.reasons.proofs.LeastRuns.{below_lesser, bound_atomic, in_more, in_rel, lesser_first, lesser_second}
@@ -209,14 +209,14 @@ module _ (P : Program) (rel : ℕ → List PathData) (A : Assignment) (grounds :
 
 -- ---- each method gets a rank
 
+atomic_or : (t annotated : Bool) → AtMost Atomic (if t then Atomic else declared_bound annotated)
+atomic_or true annotated = refl
+atomic_or false annotated = bound_atomic annotated
+
 -- what a method may have without being told is at least atomic
 pub limit_atomic : (bounds : Bounds) (P : Program) (A : Assignment) (m : ℕ) (method : Method) → AtMost Atomic (limit_for bounds P A m method)
-limit_atomic Declared P A m method = by (keeps A m method)
-  where
-    by : (t : Bool) → AtMost Atomic (if t then Atomic else declared_bound method.annotated)
-    by true = refl
-    by false = bound_atomic method.annotated
-limit_atomic Strict P A m method = bound_atomic (method.annotated || not (is_thread_entry P m))
+limit_atomic Declared P A m method = atomic_or (keeps A m method) method.annotated
+limit_atomic Strict P A m method = atomic_or (keeps_strictly P A m method) (method.annotated || not (is_thread_entry P m))
 
 module _ (P : Program) (sets : List MethodPaths) (A : Assignment) (rows : List (List ℕ)) (typed : IsTyped P) (relevant : AreRelevant P sets) (least : IsLeast P (rel_of sets) A) (are : AreOverriders P rows)
     (bounds : Bounds) (grounds : List Ground) (all : AreAllRanked bounds P (rel_of sets) A (row_at rows) grounds) where

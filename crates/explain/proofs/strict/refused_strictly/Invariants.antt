@@ -4,7 +4,7 @@ use Rattle.rules.specs.Near.{rel_of}
 use Rattle.rules.specs.Search.{row_at}
 use Rattle.explain.specs.Strict.{strict_from}
 use Rattle.explain.specs.Views.{explained_data}
-use Rattle.explain.proofs.strict.strict_explanations.Given as goal
+use Rattle.explain.proofs.strict.refused_strictly.Given as goal
 
 -- the explanations so far and those of the rest are all
 abbrev pub invariant-loop-m : goal.invariant-loop-m
