@@ -1,7 +1,7 @@
 -- A method is given a rank.
-use Rattle.std.proofs.Common.{◌≡◌, ◌≢◌, ◌⊎◌, ℕ, zero, suc, ◌+◌, ◌-◌, ◌<◌, ◌≤◌, ◌==◌, Bool, true, false, List, [], ◌∷◌, Option, Some, None, length, slice_get, slice_set, refl, sym, ap, subst, ◌∙◌, if◌then◌else◌, arith, inl, inr}
+use Rattle.std.proofs.Common.{◌≡◌, ◌≢◌, ◌⊎◌, ℕ, zero, suc, ◌+◌, ◌-◌, ◌<◌, ◌≤◌, ◌==◌, Bool, true, false, ◌&&◌, List, [], ◌∷◌, Option, Some, None, length, slice_get, slice_set, refl, sym, ap, subst, ◌∙◌, if◌then◌else◌, arith, inl, inr}
 use Rattle.std.specs.Prelude.{nat_le, nat_lt}
-use Rattle.std.proofs.lemmas.Bool.{and_parts, eqb-true, eqb-false, le-leb, ltb-true, false≢true}
+use Rattle.std.proofs.lemmas.Bool.{and_parts, eq-eqb, eqb-true, eqb-false, le-leb, ltb-false, ltb-true, false≢true}
 use Rattle.std.proofs.lemmas.Option.{same_Some, none-some, slice_get_within}
 use Rattle.base.proofs.Lists.{set_here, set_other}
 use Rattle.paths.specs.Paths.{PathData}
@@ -14,8 +14,8 @@ use Rattle.explain.specs.declared.grounds.Ground.{Ground}
 use Rattle.explain.specs.declared.ranking.Bounds.{Bounds}
 use Rattle.explain.specs.Explaining.{why_of}
 use Rattle.explain.specs.Grounds.{lead_at, lead_in_row, level_at, level_in_row, lowered, lowered_if, rank_at, rank_in_row, why_by, why_from}
-use Rattle.explain.specs.Leads.{IsLevel, IsMoreThanLimit, is_grounded_by, is_reason, reason_lead, leads_below, limit_for}
-use Rattle.explain.specs.Ranking.{AreRanked, ground_by, ground_with, known_reason, may_rank, open_rank}
+use Rattle.explain.specs.Leads.{IsLevel, IsMoreThanLimit, LeadsAmong, RunsInCircle, is_grounded_by, is_reason, reason_lead, leads_below, limit_for}
+use Rattle.explain.specs.Ranking.{AreCircling, AreRanked, ground_by, ground_with, known_reason, may_rank, open_rank}
 use Rattle.explain.specs.Whys.{WhyData}
 
 length_set : {X : Type 0} (xs : List X) (m : ℕ) (x : X) → length (slice_set xs m x) ≡ length xs
@@ -52,6 +52,7 @@ pub record IsRankedNext (bounds : Bounds) (P : Program) (rel : ℕ → List Path
   pub falls : leads_below grounds round row.lead ≡ true
   pub lead : (method : Method) → IsMoreThanLimit bounds P A m method → row.lead ≡ reason_lead P rel (why_from P rel A overs grounds row.level round m method (limit_for bounds P A m method))
   pub level : (method : Method) → IsMoreThanLimit bounds P A m method → IsLevel row.level (why_from P rel A overs grounds row.level round m method (limit_for bounds P A m method))
+  pub circle : (level : Basic) → row.level ≡ Some level → RunsInCircle bounds P rel A overs m
 
 module _ (bounds : Bounds) (P : Program) (rel : ℕ → List PathData) (A : Assignment) (overs : ℕ → List ℕ) (grounds : List Ground) (m : ℕ) (row : Ground) (round : ℕ)
     (next : IsRankedNext bounds P rel A overs grounds m row round) (ranked : AreRanked bounds P rel A overs grounds (round + 1)) where
@@ -93,6 +94,13 @@ module _ (bounds : Bounds) (P : Program) (rel : ℕ → List PathData) (A : Assi
         let open_there : rank_at grounds k ≡ open_rank = ap (rank_at grounds) same ∙ next.was in
         absurd (omega (arith, below, open_there, low))
     | inr other ↦ ap (λ o. nat_lt (rank_in_row o) rank) (there k other) ∙ is
+  ]
+
+  -- who has no rank had none
+  open_before : (k : ℕ) → rank_at now k ≡ open_rank → rank_at grounds k ≡ open_rank
+  open_before k late = elim (which k m) as (λ _. rank_at grounds k ≡ open_rank) [
+    | inl is ↦ ap (rank_at grounds) is ∙ next.was
+    | inr other ↦ sym (ap rank_in_row (there k other)) ∙ late
   ]
 
   -- the reason of the method, and those of all others
@@ -150,7 +158,15 @@ module _ (bounds : Bounds) (P : Program) (rel : ℕ → List PathData) (A : Assi
           absurd (omega (arith, e, late, h))
       | inr other ↦ ap level_in_row (there k other) ∙ ranked.plain k (sym (ap rank_in_row (there k other)) ∙ late)
     ];
+    more = λ k late. ranked.more k (open_before k late);
+    circles = λ k level has. elim (which k m) as (λ _. RunsInCircle bounds P rel A overs k) [
+      | inl is ↦ subst (λ j. RunsInCircle bounds P rel A overs j) (sym is) (next.circle level (sym level_here ∙ ap (level_at now) (sym is) ∙ has))
+      | inr other ↦ ranked.circles k level (sym (ap level_in_row (there k other)) ∙ has)
+    ];
   }
+
+  pub circling_next : ((k : ℕ) → rank_at grounds k ≡ open_rank → RunsInCircle bounds P rel A overs k) → AreCircling bounds P rel A overs now round
+  circling_next open_ones = record { ranked = ranked_next; open_ones = λ k late. open_ones k (open_before k late) }
 
 -- the ranks that are smaller than one are smaller than the next
 pub more_rounds : (bounds : Bounds) (P : Program) (rel : ℕ → List PathData) (A : Assignment) (overs : ℕ → List ℕ) (grounds : List Ground) (round : ℕ)
@@ -165,7 +181,50 @@ more_rounds bounds P rel A overs grounds round ranked = record {
   levels = ranked.levels;
   falls = ranked.falls;
   plain = ranked.plain;
+  more = ranked.more;
+  circles = ranked.circles;
 }
+
+-- where no method can be ranked as it is, each that has no rank leads to one that has none
+open_circle : (bounds : Bounds) (P : Program) (rel : ℕ → List PathData) (A : Assignment) (overs : ℕ → List ℕ) (grounds : List Ground) (round : ℕ) → AreRanked bounds P rel A overs grounds round
+    → ((m : ℕ) → m < length grounds → may_rank grounds round (slice_get grounds m) ≡ false) → (m : ℕ) → rank_at grounds m ≡ open_rank → RunsInCircle bounds P rel A overs m
+open_circle bounds P rel A overs grounds round ranked stuck m late = record {
+  among = λ k. rank_at grounds k == open_rank;
+  here = eq-eqb (rank_at grounds m) open_rank late;
+  each = λ k is. led_on k (eqb-true (rank_at grounds k) open_rank is);
+}
+  where
+    past_open : (k : ℕ) → nat_lt (rank_at grounds k) round ≡ false → rank_at grounds k ≡ open_rank
+    past_open k past = elim (ranked.early k) as (λ _. rank_at grounds k ≡ open_rank) [
+      | inl early ↦ (let h = ltb-false (rank_at grounds k) round past in absurd (omega (arith, early, h)))
+      | inr is ↦ is
+    ]
+
+    by : (k : ℕ) (its : (method : Method) × IsMoreThanLimit bounds P A k method) (lead : Option ℕ) → lead ≡ reason_lead P rel (why_of P rel A (overs k) k its.0 (limit_for bounds P A k its.0))
+        → leads_below grounds round lead ≡ false → LeadsAmong bounds P rel A overs (λ j. rank_at grounds j == open_rank) k
+    by k its None is above = absurd (false≢true (sym above))
+    by k its (Some next) is above = record { method = its.0; more = its.1; next = next; leads = sym is; inside = eq-eqb (rank_at grounds next) open_rank (past_open next above) }
+
+    not_below : (o : Option Ground) → rank_in_row o ≡ open_rank → may_rank grounds round o ≡ false → leads_below grounds round (lead_in_row o) ≡ false
+    not_below None is stuck_here = absurd (omega (arith, is))
+    not_below (Some row) is stuck_here = ap (λ t. t && leads_below grounds round row.lead) (sym (eq-eqb row.rank open_rank is)) ∙ stuck_here
+
+    inside : (k : ℕ) (o : Option Ground) → slice_get grounds k ≡ o → rank_in_row o ≡ open_rank → k < length grounds
+    inside k None at is = absurd (omega (arith, is))
+    inside k (Some row) at is = slice_get_within grounds k row at
+
+    led_on : (k : ℕ) → rank_at grounds k ≡ open_rank → LeadsAmong bounds P rel A overs (λ j. rank_at grounds j == open_rank) k
+    led_on k is =
+        let its = ranked.more k is in
+        by k its (lead_at grounds k)
+        (ranked.leads k its.0 its.1 ∙ ap (λ l. reason_lead P rel (why_from P rel A overs grounds l (rank_at grounds k) k its.0 (limit_for bounds P A k its.0))) (ranked.plain k is))
+        (not_below (slice_get grounds k) is (stuck k (inside k (slice_get grounds k) refl is)))
+
+pub are_circling : (bounds : Bounds) (P : Program) (rel : ℕ → List PathData) (A : Assignment) (overs : ℕ → List ℕ) (old new : List Ground) (round : ℕ) → new ≡ old → AreRanked bounds P rel A overs old round
+    → ((m : ℕ) → m < length old → may_rank old round (slice_get old m) ≡ false) → AreCircling bounds P rel A overs new round
+are_circling bounds P rel A overs old new round same ranked stuck =
+    subst (λ grounds. AreCircling bounds P rel A overs grounds round) (sym same)
+    (record { ranked = more_rounds bounds P rel A overs old round ranked; open_ones = open_circle bounds P rel A overs old round ranked stuck })
 
 -- ---- two ways to give it
 
@@ -189,27 +248,28 @@ led_next bounds P rel A overs grounds m was row round is late falls low row_is r
           (ap (λ l. why_from P rel A overs grounds l (rank_at grounds m) m method (limit_for bounds P A m method)) (ap level_in_row is ∙ plain)
           ∙ ap (λ l. why_from P rel A overs grounds l round m method (limit_for bounds P A m method)) (sym level_is));
       level = λ method more. subst (λ l. IsLevel l (why_from P rel A overs grounds l round m method (limit_for bounds P A m method))) (sym level_is) tt;
+      circle = λ level has. absurd (none-some level (sym level_is ∙ has));
     }) ranked
 
 -- a method with a reason by what is known before the rank
 pub known_next : (bounds : Bounds) (P : Program) (rel : ℕ → List PathData) (A : Assignment) (overs : ℕ → List ℕ) (grounds : List Ground) (m : ℕ) (method : Method) (row : Ground) (level : Basic) (round : ℕ) → m < length grounds
     → rank_at grounds m ≡ open_rank → round < open_rank → AtMost Atomic level → ground_by P rel A overs grounds level round m method ≡ Some row → slice_get P.methods m ≡ Some method
-    → AreRanked bounds P rel A overs grounds (round + 1) → AreRanked bounds P rel A overs (slice_set grounds m row) (round + 1)
-known_next bounds P rel A overs grounds m method row level round inside late low atomic found there ranked =
+    → AreCircling bounds P rel A overs grounds round → AreCircling bounds P rel A overs (slice_set grounds m row) round
+known_next bounds P rel A overs grounds m method row level round inside late low atomic found there circling =
     by (is_grounded_by P rel grounds round why) refl found
   where
     why : WhyData
     why = known_reason P rel A overs grounds level round m method
 
     by : (t : Bool) → is_grounded_by P rel grounds round why ≡ t → (if t then Some (ground_with round (Some level) (reason_lead P rel why)) else None) ≡ Some row
-        → AreRanked bounds P rel A overs (slice_set grounds m row) (round + 1)
+        → AreCircling bounds P rel A overs (slice_set grounds m row) round
     by false test is = absurd (none-some row is)
     by true test is =
         let made : Ground = ground_with round (Some level) (reason_lead P rel why) in
         let row_is : made ≡ row = same_Some made row is in
         let parts = and_parts (is_reason why) (leads_below grounds round (reason_lead P rel why)) test in
-        subst (λ r. AreRanked bounds P rel A overs (slice_set grounds m r) (round + 1)) row_is
-        (ranked_next bounds P rel A overs grounds m made round
+        subst (λ r. AreCircling bounds P rel A overs (slice_set grounds m r) round) row_is
+        (circling_next bounds P rel A overs grounds m made round
         (record {
           inside = inside;
           low = low;
@@ -218,7 +278,8 @@ known_next bounds P rel A overs grounds m method row level round inside late low
           falls = parts.1;
           lead = λ other more. ap (λ x. reason_lead P rel (known_reason P rel A overs grounds level round m x)) (same_Some method other (sym there ∙ more.there));
           level = λ other more. (atomic, ap (λ x. is_reason (known_reason P rel A overs grounds level round m x)) (sym (same_Some method other (sym there ∙ more.there))) ∙ parts.0);
-        }) ranked)
+          circle = λ l has. circling.open_ones m late;
+        }) circling.ranked circling.open_ones)
 
 -- a row that may have the rank
 pub led_row : (bounds : Bounds) (P : Program) (rel : ℕ → List PathData) (A : Assignment) (overs : ℕ → List ℕ) (grounds : List Ground) (m : ℕ) (row : Ground) (round : ℕ) (o : Option Ground) → slice_get grounds m ≡ o

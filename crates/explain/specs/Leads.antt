@@ -11,7 +11,7 @@ use Rattle.rules.specs.Rules.{AtMost, declared_bound}
 use Rattle.explain.specs.declared.ranking.Bounds.{Bounds}
 use Rattle.explain.specs.declared.ranking.Bounds.TheVariants.{Declared, Strict}
 use Rattle.explain.specs.declared.grounds.Ground.{Ground}
-use Rattle.explain.specs.Explaining.{is_error_of_part}
+use Rattle.explain.specs.Explaining.{is_error_of_part, why_of}
 use Rattle.explain.specs.Grounds.{level_at, rank_at, why_by}
 use Rattle.explain.specs.Meanings.{IsReasonOf}
 use Rattle.explain.specs.Programs.{called_by, found_of, keeps}
@@ -55,6 +55,21 @@ pub record IsMoreThanLimit (bounds : Bounds) (P : Program) (A : Assignment) (m :
   pub there : slice_get P.methods m ≡ Some method
   pub above : below_of (found_of A m method) (limit_for bounds P A m method) ≡ false
 
+-- the explanation of a method as it is leads to one of these
+pub record LeadsAmong (bounds : Bounds) (P : Program) (rel : ℕ → List PathData) (A : Assignment) (overs : ℕ → List ℕ) (among : ℕ → Bool) (m : ℕ) : Type 0 where
+  pub method : Method
+  pub more : IsMoreThanLimit bounds P A m method
+  pub next : ℕ
+  pub leads : reason_lead P rel (why_of P rel A (overs m) m method (limit_for bounds P A m method)) ≡ Some next
+  pub inside : among next ≡ true
+
+-- the explanation of a method as it is runs into a circle: the method is one of some of which each leads to one of them, so no chain of their
+-- explanations ends at a step
+pub record RunsInCircle (bounds : Bounds) (P : Program) (rel : ℕ → List PathData) (A : Assignment) (overs : ℕ → List ℕ) (m : ℕ) : Type 0 where
+  pub among : ℕ → Bool
+  pub here : among m ≡ true
+  pub each : (k : ℕ) → among k ≡ true → LeadsAmong bounds P rel A overs among k
+
 -- a reason leads nowhere, or to a method of smaller rank than this
 abbrev pub leads_below : List Ground → (rank : ℕ) → Option ℕ → Bool
 leads_below grounds rank None = true
@@ -79,10 +94,12 @@ abbrev pub IsLevel : Option Basic → WhyData → Type 0
 IsLevel None why = Unit {0}
 IsLevel (Some level) why = AtMost Atomic level × (is_reason why ≡ true)
 
--- the explanation of each method that is more than it may be leads nowhere, or to one of smaller rank
+-- the explanation of each method that is more than it may be leads nowhere, or to one of smaller rank; it is told by a level only where, as it
+-- is, it runs into a circle
 pub record AreGrounded (bounds : Bounds) (P : Program) (rel : ℕ → List PathData) (A : Assignment) (overs : ℕ → List ℕ) (grounds : List Ground) : Type 0 where
   pub falls : (m : ℕ) (method : Method) → IsMoreThanLimit bounds P A m method → leads_below grounds (rank_at grounds m) (reason_lead P rel (why_by P rel A overs grounds m method (limit_for bounds P A m method))) ≡ true
   pub levels : (m : ℕ) (method : Method) → IsMoreThanLimit bounds P A m method → IsLevel (level_at grounds m) (why_by P rel A overs grounds m method (limit_for bounds P A m method))
+  pub circles : (m : ℕ) (level : Basic) → level_at grounds m ≡ Some level → RunsInCircle bounds P rel A overs m
 
 -- a reason by a level, which is at least `atomic`: it is so by what is known, an assignment that is nowhere more than what methods come to
 pub record IsReasonKnown (P : Program) (rel : ℕ → List PathData) (A : Assignment) (overs : List ℕ) (method : Method) (level : Basic) (why : WhyData) : Type 0 where

@@ -11,7 +11,7 @@ use Rattle.explain.specs.declared.grounds.Ground.{Ground}
 use Rattle.explain.specs.declared.ranking.Bounds.{Bounds}
 use Rattle.explain.specs.Explaining.{why_of}
 use Rattle.explain.specs.Grounds.{level_at, lead_at, rank_at, why_by, why_from}
-use Rattle.explain.specs.Leads.{IsLevel, IsMoreThanLimit, is_grounded_by, reason_lead, leads_below, limit_for}
+use Rattle.explain.specs.Leads.{IsLevel, IsMoreThanLimit, RunsInCircle, is_grounded_by, reason_lead, leads_below, limit_for}
 use Rattle.explain.specs.Programs.{found_of}
 use Rattle.explain.specs.Whys.{WhyData}
 
@@ -59,8 +59,8 @@ module _ (P : Program) (rel : ℕ → List PathData) (A : Assignment) (overs : �
     abbrev pub is_stuck_at : Bool
     is_stuck_at = not (rank_at grounds m == open_rank) || not (is_grounded_by P rel grounds round known_reason)
 
--- ranks are given that are smaller than this one: each method has its lead; one that has a rank leads nowhere or to one of smaller rank, and one that has none
--- is explained as it is
+-- ranks are given that are smaller than this one: each method has its lead; one that has a rank leads nowhere or to one of smaller rank; one
+-- that has none is more than it may be and explained as it is; and one that has a level runs into a circle, as it is
 pub record AreRanked (bounds : Bounds) (P : Program) (rel : ℕ → List PathData) (A : Assignment) (overs : ℕ → List ℕ) (grounds : List Ground) (round : ℕ) : Type 0 where
   pub each : length grounds ≡ length P.methods
   pub early : (m : ℕ) → (rank_at grounds m < round) ⊎ (rank_at grounds m ≡ open_rank)
@@ -68,6 +68,13 @@ pub record AreRanked (bounds : Bounds) (P : Program) (rel : ℕ → List PathDat
   pub levels : (m : ℕ) (method : Method) → IsMoreThanLimit bounds P A m method → IsLevel (level_at grounds m) (why_by P rel A overs grounds m method (limit_for bounds P A m method))
   pub falls : (m : ℕ) → (rank_at grounds m ≡ open_rank → ⊥) → leads_below grounds (rank_at grounds m) (lead_at grounds m) ≡ true
   pub plain : (m : ℕ) → rank_at grounds m ≡ open_rank → level_at grounds m ≡ None
+  pub more : (m : ℕ) → rank_at grounds m ≡ open_rank → (method : Method) × IsMoreThanLimit bounds P A m method
+  pub circles : (m : ℕ) (level : Basic) → level_at grounds m ≡ Some level → RunsInCircle bounds P rel A overs m
+
+-- the same of a round in which no method gets its rank as it is: each that has none runs into a circle
+pub record AreCircling (bounds : Bounds) (P : Program) (rel : ℕ → List PathData) (A : Assignment) (overs : ℕ → List ℕ) (grounds : List Ground) (round : ℕ) : Type 0 where
+  pub ranked : AreRanked bounds P rel A overs grounds (round + 1)
+  pub open_ones : (m : ℕ) → rank_at grounds m ≡ open_rank → RunsInCircle bounds P rel A overs m
 
 -- each method has a rank, or no reason by what is known before this one
 abbrev pub AreStuck : Program → (rel : ℕ → List PathData) → Assignment → (overs : ℕ → List ℕ) → List Ground → (level : Basic) → (round : ℕ) → Type 0

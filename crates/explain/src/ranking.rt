@@ -11,7 +11,7 @@ ghost use Rattle.rules.specs.Rules.{AtMost};
 ghost use Rattle.rules.specs.Search.{row_at};
 ghost use Rattle.explain.specs.declared.ranking.Bounds.{Bounds};
 ghost use Rattle.explain.specs.Leads.{limit_for, told_limit};
-ghost use Rattle.explain.specs.Ranking.{AreAllRanked, AreRanked, AreStuck, first_ground, first_grounds, ground_by, is_stuck_at, may_rank, open_rank};
+ghost use Rattle.explain.specs.Ranking.{AreAllRanked, AreCircling, AreRanked, AreStuck, first_ground, first_grounds, ground_by, is_stuck_at, may_rank, open_rank};
 
 use crate::explaining::why_more;
 use crate::grounds::{Ground, Lowered, is_reason, leads_below, rank_at, reason_lead, why_known};
@@ -130,6 +130,7 @@ fn rank_led(grounds: &mut Vec<Ground>, place: usize, round: u64) -> bool
     ensures length { length grounds.new.items ≡ length grounds.old.items }
     ensures ranked { (bounds : Bounds) (P : Program) (rel : ℕ → List PathData) (A : Assignment) (overs : ℕ → List ℕ) → AreRanked bounds P rel A overs grounds.old.items (round + 1) → AreRanked bounds P rel A overs grounds.new.items (round + 1) }
     ensures same { result ≡ false → grounds.new.items ≡ grounds.old.items }
+    ensures stuck { result ≡ false → may_rank grounds.old.items round (slice_get grounds.old.items place) ≡ false }
 {
     if !may_rank(grounds.as_slice(), place, round) {
         return false;
@@ -144,6 +145,7 @@ fn rank_all_led(grounds: &mut Vec<Ground>, round: u64) -> bool
     ensures length { length grounds.new.items ≡ length grounds.old.items }
     ensures ranked { (bounds : Bounds) (P : Program) (rel : ℕ → List PathData) (A : Assignment) (overs : ℕ → List ℕ) → AreRanked bounds P rel A overs grounds.old.items (round + 1) → AreRanked bounds P rel A overs grounds.new.items (round + 1) }
     ensures same { result ≡ false → grounds.new.items ≡ grounds.old.items }
+    ensures stuck { result ≡ false → (place : ℕ) → place < length grounds.old.items → may_rank grounds.old.items round (slice_get grounds.old.items place) ≡ false }
 {
     let mut any = false;
     for place in 0..grounds.len() {
@@ -197,8 +199,8 @@ fn rank_known<A: Assigned>(
     requires level { AtMost Atomic round.now.level }
     ensures length { length grounds.new.items ≡ length grounds.old.items }
     ensures ranked { OnOk result ((bounds : Bounds) → slice_get (program_of walk.now.program.now).methods id ≡ Some (method_of method.now) →
-        AreRanked bounds (program_of walk.now.program.now) (rel_of walk.now.sets.now) (A.Assigned.assigned walk.now.assigned.now) (row_at over.now) grounds.old.items (round.now.number + 1) →
-        AreRanked bounds (program_of walk.now.program.now) (rel_of walk.now.sets.now) (A.Assigned.assigned walk.now.assigned.now) (row_at over.now) grounds.new.items (round.now.number + 1)) }
+        AreCircling bounds (program_of walk.now.program.now) (rel_of walk.now.sets.now) (A.Assigned.assigned walk.now.assigned.now) (row_at over.now) grounds.old.items round.now.number →
+        AreCircling bounds (program_of walk.now.program.now) (rel_of walk.now.sets.now) (A.Assigned.assigned walk.now.assigned.now) (row_at over.now) grounds.new.items round.now.number) }
     ensures same { IfOk result (λ any. any ≡ false → grounds.new.items ≡ grounds.old.items) }
     ensures stuck { IfOk result (λ any. any ≡ false → is_stuck_at (program_of walk.now.program.now) (rel_of walk.now.sets.now) (A.Assigned.assigned walk.now.assigned.now) (row_at over.now)
         grounds.old.items round.now.level round.now.number id (method_of method.now) ≡ true) }
@@ -228,8 +230,8 @@ fn rank_all_known<A: Assigned>(
     requires level { AtMost Atomic round.now.level }
     ensures length { length grounds.new.items ≡ length grounds.old.items }
     ensures ranked { OnOk result ((bounds : Bounds) →
-        AreRanked bounds (program_of walk.now.program.now) (rel_of walk.now.sets.now) (A.Assigned.assigned walk.now.assigned.now) (row_at over.now) grounds.old.items (round.now.number + 1) →
-        AreRanked bounds (program_of walk.now.program.now) (rel_of walk.now.sets.now) (A.Assigned.assigned walk.now.assigned.now) (row_at over.now) grounds.new.items (round.now.number + 1)) }
+        AreCircling bounds (program_of walk.now.program.now) (rel_of walk.now.sets.now) (A.Assigned.assigned walk.now.assigned.now) (row_at over.now) grounds.old.items round.now.number →
+        AreCircling bounds (program_of walk.now.program.now) (rel_of walk.now.sets.now) (A.Assigned.assigned walk.now.assigned.now) (row_at over.now) grounds.new.items round.now.number) }
     ensures same { IfOk result (λ any. any ≡ false → grounds.new.items ≡ grounds.old.items) }
     ensures stuck { IfOk result (λ any. any ≡ false → AreStuck (program_of walk.now.program.now) (rel_of walk.now.sets.now) (A.Assigned.assigned walk.now.assigned.now) (row_at over.now)
         grounds.new.items round.now.level round.now.number) }
@@ -254,7 +256,7 @@ fn rank_round<A: Assigned>(
     requires round { number < open_rank }
     ensures length { length grounds.new.items ≡ length grounds.old.items }
     ensures ranked { OnOk result ((bounds : Bounds) →
-        AreRanked bounds (program_of walk.now.program.now) (rel_of walk.now.sets.now) (A.Assigned.assigned walk.now.assigned.now) (row_at over.now) grounds.old.items (number + 1) →
+        AreRanked bounds (program_of walk.now.program.now) (rel_of walk.now.sets.now) (A.Assigned.assigned walk.now.assigned.now) (row_at over.now) grounds.old.items number →
         AreRanked bounds (program_of walk.now.program.now) (rel_of walk.now.sets.now) (A.Assigned.assigned walk.now.assigned.now) (row_at over.now) grounds.new.items (number + 1)) }
     ensures same { IfOk result (λ any. any ≡ false → grounds.new.items ≡ grounds.old.items) }
     ensures stuck { IfOk result (λ any. any ≡ false → AreStuck (program_of walk.now.program.now) (rel_of walk.now.sets.now) (A.Assigned.assigned walk.now.assigned.now) (row_at over.now)

@@ -81,6 +81,7 @@ module _ (call : Call) (name file : List ℕ) where
         methods = exactly_for P (rel_of j.sets) j.assignment (row_at overs) grounds order;
         above = above_for P j.sets j.assignment overs j.typed j.least explains.are_overs order grounds founded;
         reasons = reasons_for P j.sets j.assignment overs j.typed j.least explains.are_overs order grounds founded;
+        levels = founded.circles;
         circle = circle_for P j.sets j.assignment overs j.typed j.least explains.are_overs order grounds founded;
         causes = causes_for P j.sets j.assignment overs j.typed j.least explains.are_overs order grounds founded;
         places = λ x c method is v named. placed name file tree P core x.method method is v

@@ -4,13 +4,14 @@
 use Rattle.std.specs.Prelude.{◌≡◌, ◌≢◌, ◌↔◌, ℕ, ◌≤◌, false, List, [], ◌∷◌, ◌++◌, Contains, Some, length, slice_get, ◌⊎◌}
 use Rattle.std.specs.Io.KnownBytes.{Appends}
 use Rattle.lexer.specs.Limits.{longest_source}
+use Rattle.algebra.specs.declared.basic.Basic.{Basic}
 use Rattle.algebra.specs.Basics.{below_of}
 use Rattle.core_program.specs.Core.{Program, Method}
 use Rattle.explain.specs.declared.names.Alias.{Alias}
 use Rattle.explain.specs.Causes.{cause_of}
 use Rattle.explain.specs.declared.grounds.Ground.{Ground}
 use Rattle.explain.specs.Grounds.{level_at}
-use Rattle.explain.specs.Leads.{IsReasonChain, IsReasonBy}
+use Rattle.explain.specs.Leads.{IsReasonChain, IsReasonBy, RunsInCircle}
 use Rattle.explain.specs.Whys.{ExplainedData, Wrong}
 use Rattle.edge.specs.Calls.{Call, HasNoFault}
 use Rattle.reasons.specs.Causing.{IsCause}
@@ -29,7 +30,7 @@ use Rattle.explain_text.specs.Arrangements.{arranged, told_or_counted}
 use Rattle.explain_commands.specs.Broken.{refused_in}
 use Rattle.explain_commands.specs.Explained.{AreTexts}
 use Rattle.explain_commands.specs.Placed.{IsNamedBy, StandsInPlace}
-use Rattle.explain_commands.specs.Orders.{IsAcceptedFor, broken_for, explanations_for}
+use Rattle.explain_commands.specs.Orders.{IsAcceptedFor, bounds_for, broken_for, explanations_for}
 use Rattle.explain_commands.specs.Warned.{warnings_text}
 use Rattle.explain_commands.specs.Words.{AsksFor}
 
@@ -55,6 +56,8 @@ pub record TellsBroken (order : Order) (call : Call) (name file : List ℕ) (tre
   pub above : (x : ExplainedData) → Contains (explanations_for order P (rel_of sets) assignment (row_at overs) grounds) x → below_of x.found x.limit ≡ false
   pub reasons : (x : ExplainedData) → Contains (explanations_for order P (rel_of sets) assignment (row_at overs) grounds) x → (method : Method) → slice_get P.methods x.method ≡ Some method
       → IsReasonBy P (rel_of sets) assignment (row_at overs x.method) method (level_at grounds x.method) x.limit x.why
+  -- a method is told by a level only where its explanation as it is runs into a circle
+  pub levels : (m : ℕ) (level : Basic) → level_at grounds m ≡ Some level → RunsInCircle (bounds_for order) P (rel_of sets) assignment (row_at overs) m
   -- no chain of told methods, each of which is what it is by the next, comes back to where it began
   pub circle : (x : ExplainedData) → IsReasonChain P (rel_of sets) (explanations_for order P (rel_of sets) assignment (row_at overs) grounds) x x → ⊥
   -- and so has each access or call that lacks a lock: the line tells what lacks there

@@ -6,14 +6,14 @@ ghost use Rattle.core_examples.specs.Bodies.{nothing_held};
 ghost use Rattle.explain.specs.declared.ranking.Bounds.TheVariants.{Declared, Strict};
 ghost use Rattle.explain.specs.Explaining.{begins_compound, done_in_order};
 ghost use Rattle.explain.specs.Grounds.{lead_at, lesser, level_at, lowered, rank_at, why_by};
-ghost use Rattle.explain.specs.Leads.{is_grounded_by, is_reason, reason_lead, leads_below, limit_for};
+ghost use Rattle.explain.specs.Leads.{RunsInCircle, is_grounded_by, is_reason, reason_lead, leads_below, limit_for};
 ghost use Rattle.explain.specs.Programs.{explanations};
 ghost use Rattle.explain.specs.Ranking.{first_grounds, ground_by, is_stuck_at, may_rank, open_rank};
 ghost use Rattle.explain.specs.Whys.{Wrong, Looped, Compound, Two, Overridden, Nothing};
 ghost use Rattle.explain_examples.specs.Circles.{back, circle, circle_ranks, turning};
 ghost use Rattle.explain_examples.specs.Outlines.{outline, told_outline, compound, two};
 ghost use Rattle.explain_examples.specs.Page.{locked_put, locking_program};
-ghost use Rattle.explain_examples.specs.Shelf.{all_compound, call_visit, shelf, shelf_levels, shelf_paths, write_visit};
+ghost use Rattle.explain_examples.specs.Shelf.{all_compound, call_visit, calling_main, shelf, shelf_levels, shelf_paths, write_visit};
 
 /// What is told as it is leads in a circle. By ranks one of the two is told by its steps, and the other isn't told.
 pub fn how_circles_are_told()
@@ -35,6 +35,14 @@ pub fn how_ranks_are_given()
     ensures rows { map (rank_at circle_ranks) (0 ∷ 1 ∷ 2 ∷ []) ≡ 1 ∷ 2 ∷ 0 ∷ [] }
     ensures levels { map (level_at circle_ranks) (0 ∷ 1 ∷ 2 ∷ []) ≡ Some Atomic ∷ None ∷ None ∷ [] }
     ensures leads { map (lead_at circle_ranks) (0 ∷ 1 ∷ 2 ∷ []) ≡ None ∷ Some 0 ∷ None ∷ [] }
+{}
+
+/// What `f` and `g` are by each other runs into a circle. What `main` is by its own two writes doesn't, and a method that isn't there is none of
+/// these.
+pub fn what_runs_into_a_circle()
+    ensures runs { RunsInCircle Declared circle shelf_paths all_compound (λ m. []) 0 }
+    ensures ends { RunsInCircle Declared calling_main shelf_paths all_compound (λ m. []) 1 → ⊥ }
+    ensures missing { RunsInCircle Declared circle shelf_paths all_compound (λ m. []) 2 → ⊥ }
 {}
 
 /// What is known before a rank, and what a reason leads to.

@@ -261,4 +261,5 @@ module _ (P : Program) (sets : List MethodPaths) (A : Assignment) (rows : List (
   all_grounded = record {
     falls = λ m method more. ap (leads_below grounds (rank_at grounds m)) (sym (all.ranked.leads m method more)) ∙ all.ranked.falls m (all_closed m method more);
     levels = all.ranked.levels;
+    circles = all.ranked.circles;
   }

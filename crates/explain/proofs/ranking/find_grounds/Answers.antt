@@ -5,7 +5,6 @@ use Rattle.rules.specs.Near.{rel_of}
 use Rattle.rules.specs.Search.{row_at}
 use Rattle.explain.specs.Ranking.{AreRanked}
 use Rattle.explain.proofs.FirstRanks.{first_ranked}
-use Rattle.explain.proofs.Ranked.{more_rounds}
 use Rattle.explain.proofs.ranking.find_grounds.Goals as goal
 
 pub loop-round-init : goal.loop-round-init
@@ -17,9 +16,7 @@ pub rank_round-requires-clause-each : goal.rank_round-requires-clause-each
 rank_round-requires-clause-each g c = c.loop-round.invariant.each
 
 pub loop-round-preserved : goal.loop-round-preserved
-loop-round-preserved g c =
-    let P = program_of c.args.walk.now.program.now in let rel = rel_of c.args.walk.now.sets.now in let A = g.A.Assigned.assigned c.args.walk.now.assigned.now in let overs = row_at c.args.over.now in
-    c.in_ok-rank_round.ensures.ranked c.args.bounds (more_rounds c.args.bounds P rel A overs c.loop-round.grounds.items c.loop-round.round c.loop-round.invariant)
+loop-round-preserved g c = c.in_ok-rank_round.ensures.ranked c.args.bounds c.loop-round.invariant
 
 pub returns-then-not-branch : goal.returns-then-not-branch
 returns-then-not-branch g c =

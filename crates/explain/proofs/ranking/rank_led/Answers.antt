@@ -1,10 +1,14 @@
--- The rank is given.
+-- A row that may not have the rank, and one to which it is given.
 use Rattle.std.proofs.Common.{◌∙◌, ap, refl, slice_get, sym}
 use Rattle.std.proofs.lemmas.Option.{get_or_from_slice_get}
 use Rattle.explain.specs.declared.grounds.Ground.{Ground}
 use Rattle.explain.specs.Ranking.{ground_with, may_rank}
 use Rattle.explain.proofs.Ranked.{led_row}
 use Rattle.explain.proofs.ranking.rank_led.Goals as goal
+
+pub returns-then-not-may_rank-clause-stuck : goal.returns-then-not-may_rank-clause-stuck
+returns-then-not-may_rank-clause-stuck c =
+    λ e. ap (λ rows. may_rank rows c.args.round (slice_get rows c.args.place)) (sym c.as_slice.ensures.value) ∙ sym c.may_rank.ensures ∙ c.if-not-may_rank.true
 
 pub returns-clause-ranked : goal.returns-clause-ranked
 returns-clause-ranked c =
