@@ -27,3 +27,5 @@ pub mod Ranked
 pub mod FirstRanks
 -- Writes of fields that nothing guards.
 pub mod Writing
+-- A body with a variable final.
+pub mod FinalParts

@@ -3,11 +3,13 @@
 //! through a body, with the basic of each part, and says what the steps do and what is wrong with an error.
 #![tactic(auto)]
 
+mod advice;
 mod assigned;
 mod causes;
 mod deeds;
 mod errors;
 mod explaining;
+mod finals;
 mod found;
 mod grounds;
 mod laws_of_explanations;
@@ -21,6 +23,7 @@ mod unguarded;
 mod walk;
 mod wrapping;
 
+pub use advice::fitting;
 pub use assigned::Shown;
 pub use causes::{Cause, cause_of};
 pub use deeds::{Deed, Help, deed_of, help_of};

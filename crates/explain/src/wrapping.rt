@@ -18,7 +18,7 @@ use paths::{MethodId, Path};
 use std::alloc::AllocError as NoMemory;
 
 /// The effect of a body where these paths are held.
-fn body_effect<A: Assigned>(
+pub(crate) fn body_effect<A: Assigned>(
     walk: &Walk<'_, A>,
     body: &CoreStmt,
     held: &[Path],

@@ -30,6 +30,7 @@ use Rattle.explain_commands.specs.Sentence.{AsksToExplain, TellsBroken, Explains
 use Rattle.explain_commands.proofs.Placing.{placed}
 use Rattle.explain_commands.specs.Warned.{warnings_text}
 use Rattle.explain_commands.specs.Written.{IsAskedFile, BelongsToFile, too_large, ended}
+use Rattle.reasons.proofs.Fitted.{told_fits}
 use Rattle.explain_commands.proofs.Bounds.{above_for, causes_for, circle_for, exactly_for, grounded_for, named_for, nothing_for, reasons_for}
 
 -- the status of how it ends where these methods break their bounds
@@ -84,6 +85,7 @@ module _ (call : Call) (name file : List ℕ) where
         levels = founded.circles;
         circle = circle_for P j.sets j.assignment overs j.typed j.least explains.are_overs order grounds founded;
         causes = causes_for P j.sets j.assignment overs j.typed j.least explains.are_overs order grounds founded;
+        finals = λ x c method is aliases slot fits. told_fits P (rel_of j.sets) j.assignment aliases x method is slot fits;
         places = λ x c method is v named. placed name file tree P core x.method method is v
             (named_for P j.sets j.assignment overs j.typed j.least explains.are_overs order grounds founded x c method is v named);
         refused = by_list.0;

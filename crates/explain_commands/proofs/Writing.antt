@@ -1,5 +1,5 @@
 -- The lines of methods, one behind the other.
-use Rattle.std.proofs.Common.{◌≡◌, ℕ, zero, suc, ◌+◌, ◌<◌, ◌≤◌, List, [], ◌∷◌, ◌++◌, map, drop, get_or, length, slice_get, sym, ap, subst, ◌∙◌, append_assoc, append-nil, arith, Some, Bor, option_map}
+use Rattle.std.proofs.Common.{◌≡◌, ℕ, zero, suc, ◌+◌, ◌<◌, ◌≤◌, List, [], ◌∷◌, ◌++◌, map, drop, get_or, length, slice_get, sym, ap, subst, ◌∙◌, append_assoc, append-nil, arith, None, Some, Bor, option_map}
 use Rattle.syntax.specs.Views.{member_of}
 use Rattle.syntax.specs.declared.tree.Member.{Member}
 use Rattle.std.proofs.lemmas.Option.{slice_get-map, slice_get-get_or}
@@ -38,8 +38,8 @@ member_at xs k x below is = slice_get-map (λ m. member_of m.now) xs k ∙ ap (o
 
 -- what the lines of a method are written with, from the names and the offsets of the member that it is
 pub page_is : (name text : List ℕ) (table : TableData) (methods : List MemberTree) (m : ℕ) (member : MemberTree) (slots : List (List ℕ)) (offsets : List ℕ) → slice_get methods m ≡ Some member
-    → slots ≡ member_slots member → offsets ≡ member_places member → record { file = name; text = text; table = table; slots = slots; offsets = offsets } ≡ page_of name text table methods m
-page_is name text table methods m member slots offsets at s o = λ i. record { file = name; text = text; table = table; slots = (s ∙ ap slots_at (sym at)) i; offsets = (o ∙ ap places_at (sym at)) i }
+    → slots ≡ member_slots member → offsets ≡ member_places member → record { file = name; text = text; table = table; slots = slots; offsets = offsets; fitting = None } ≡ page_of name text table methods m
+page_is name text table methods m member slots offsets at s o = λ i. record { file = name; text = text; table = table; slots = (s ∙ ap slots_at (sym at)) i; offsets = (o ∙ ap places_at (sym at)) i; fitting = None }
 
 -- what was found, seen in another list that is the same
 pub arranged_in : (xs ys : List Arranged) (all : List ArrangedData) → xs ≡ ys → map arranged_data ys ≡ all → map arranged_data xs ≡ all

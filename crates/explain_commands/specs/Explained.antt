@@ -24,7 +24,8 @@ places_at None = []
 places_at (Some m) = member_places m
 
 -- what the lines of the method with this number are written with: the name of the file and its text, the class table, and of the method of
--- the tree with this number, which is among these, the names of its slots and the offsets of its nodes
+-- the tree with this number, which is among these, the names of its slots and the offsets of its nodes. Which variable should
+-- be final is asked where the method is told.
 abbrev pub page_of : (name text : List ℕ) → TableData → List MemberTree → ℕ → PageData
 page_of name text table methods m = record {
   file = name;
@@ -32,6 +33,7 @@ page_of name text table methods m = record {
   table = table;
   slots = slots_at (slice_get methods m);
   offsets = places_at (slice_get methods m);
+  fitting = None;
 }
 
 -- each of the explained methods is one of the first so many

@@ -67,6 +67,7 @@ fn add_block<A: Assigned>(
         table: &told.source.table,
         slots: &slots,
         offsets: offsets.as_slice(),
+        fitting: None,
     };
     write_arranged(text, &page, walk, over, known.as_slice(), x)
 }

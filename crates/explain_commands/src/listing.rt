@@ -40,6 +40,7 @@ fn add_lines<A: Assigned>(
         table: &told.source.table,
         slots: &slots,
         offsets: offsets.as_slice(),
+        fitting: None,
     };
     write_listing(text, &page, id, parts.as_slice())
 }

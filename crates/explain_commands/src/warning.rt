@@ -36,6 +36,7 @@ fn add_warning(
         table: &told.source.table,
         slots: &slots,
         offsets: offsets.as_slice(),
+        fitting: None,
     };
     write_warning(text, &page, write)
 }

@@ -6,6 +6,7 @@ pub mod Bodies
 pub mod Page
 pub mod Errors
 pub mod Circles
--- Writes of fields that nothing guards (Writes), and a scope (Scopes).
+-- Writes of fields that nothing guards (Writes), variables that aren't final (Finals), and a scope (Scopes).
 pub mod Writes
+pub mod Finals
 pub mod Scopes

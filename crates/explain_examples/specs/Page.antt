@@ -19,9 +19,10 @@ page_table = record {
   methods = record { class = 0; name = codes "put"; params = []; returns = None } ∷ record { class = 0; name = codes "main"; params = []; returns = None } ∷ [];
 }
 
--- two lines of three bytes each; the slots `this` and `x`; nodes at the second byte of the first line and at the first two of the second
+-- two lines of three bytes each; the slots `this` and `x`; nodes at the second byte of the first line and at the first two of the second; `x`
+-- should be final
 abbrev pub page : PageData
-page = record { file = codes "f"; text = codes "ab\ncd\n"; table = page_table; slots = codes "this" ∷ codes "x" ∷ []; offsets = 1 ∷ 3 ∷ 4 ∷ [] }
+page = record { file = codes "f"; text = codes "ab\ncd\n"; table = page_table; slots = codes "this" ∷ codes "x" ∷ []; offsets = 1 ∷ 3 ∷ 4 ∷ []; fitting = Some 1 }
 
 -- `this.v = 1;`
 abbrev pub put_field : Stmt

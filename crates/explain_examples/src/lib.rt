@@ -6,6 +6,7 @@ pub mod basics;
 pub mod causes;
 pub mod circles;
 pub mod deeds;
+pub mod finals;
 pub mod lines;
 pub mod names;
 pub mod reasons;

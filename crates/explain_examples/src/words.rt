@@ -12,6 +12,7 @@ ghost use Rattle.explain_text.specs.CauseTexts.{cause_text};
 ghost use Rattle.explain_text.specs.Codes.{cause_code, ending, help_code, spoken_kind, step_code, step_lead, why_code};
 ghost use Rattle.explain_text.specs.declared.codes.StepKind.TheVariants as kind;
 ghost use Rattle.explain_text.specs.DeedTexts.{deed_text, help_text, may_stay};
+ghost use Rattle.explain_text.specs.Pages.{advised};
 ghost use Rattle.explain_text.specs.Words.{access_text, field_title, held_list_text, lack_text, path_in, slot_in};
 ghost use Rattle.core_examples.specs.Fields.{path};
 ghost use Rattle.explain_examples.specs.Page.{page, one_step, page_table};
@@ -25,6 +26,7 @@ pub fn which_names_things_have()
     ensures held { map (held_list_text page) ([] ∷ (path 1 [] ∷ []) ∷ (path 0 [] ∷ path 1 [] ∷ path 1 (1 ∷ []) ∷ []) ∷ []) ≡ codes "nothing" ∷ codes "x" ∷ codes "this, x, x.n" ∷ [] }
     ensures lacks { map (lack_text page) (lack.Variable 1 ∷ lack.Field 1 ∷ lack.Long ∷ lack.Value ∷ []) ≡
         codes "x isn't final" ∷ codes "A.n isn't final" ∷ codes "its path would have more than two fields" ∷ codes "it isn't reached by a variable and final fields" ∷ [] }
+    ensures advice { map (λ fitting. lack_text (advised page fitting) (lack.Variable 1)) (Some 1 ∷ Some 2 ∷ None ∷ []) ≡ codes "x isn't final" ∷ codes "x names no lock" ∷ codes "x names no lock" ∷ [] }
 {}
 
 /// What is wrong with an error.

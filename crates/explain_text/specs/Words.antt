@@ -1,5 +1,5 @@
 -- Names in the lines of a method: paths, fields, held locks, and why an expression has no path.
-use Rattle.std.specs.Prelude.{ℕ, List, [], ◌∷◌, ◌++◌, Option, Some, None, option_and_then, codes, slice_get, unwrap_or}
+use Rattle.std.specs.Prelude.{ℕ, Bool, true, false, ◌==◌, List, [], ◌∷◌, ◌++◌, Option, Some, None, option_and_then, codes, slice_get, unwrap_or}
 use Rattle.classes.specs.Table.{TableData}
 use Rattle.explain.specs.declared.names.Lack.{Lack}
 use Rattle.explain.specs.declared.names.Lack.TheVariants as lack
@@ -39,9 +39,19 @@ abbrev pub held_list_text : PageData → List PathData → List ℕ
 held_list_text page [] = codes "nothing"
 held_list_text page (p ∷ ps) = path_in page p ++ more_held page ps
 
+-- whether this is the variable that helps where it is made final
+abbrev pub is_fitting : Option ℕ → ℕ → Bool
+is_fitting None slot = false
+is_fitting (Some x) slot = x == slot
+
+-- what is said of a variable that isn't final, by whether it helps to make it final
+abbrev pub variable_words : (helps : Bool) → List ℕ
+variable_words true = codes " isn't final"
+variable_words false = codes " names no lock"
+
 -- why an expression has no path
 abbrev pub lack_text : PageData → Lack → List ℕ
-lack_text page (lack.Variable slot) = slot_in page slot ++ codes " isn't final"
+lack_text page (lack.Variable slot) = slot_in page slot ++ variable_words (is_fitting page.fitting slot)
 lack_text page (lack.Field f) = field_title page.table f ++ codes " isn't final"
 lack_text page lack.Long = codes "its path would have more than two fields"
 lack_text page lack.Value = codes "it isn't reached by a variable and final fields"

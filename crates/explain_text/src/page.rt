@@ -1,7 +1,7 @@
 //! What the lines of a method are written with, and how a line begins and ends.
 
 ghost use Rattle.std.specs.Prelude.{◌≡◌, ◌++◌, codes, string_bytes, IfOk, OnOk};
-ghost use Rattle.explain_text.specs.Pages.{words_before_kind, note_front, node_offset, place_start};
+ghost use Rattle.explain_text.specs.Pages.{advised, words_before_kind, note_front, node_offset, place_start};
 ghost use Rattle.explain_text.specs.Blocks.{kind_word};
 ghost use Rattle.explain_text.specs.Views.{page_data};
 
@@ -10,8 +10,8 @@ use places::{LineIndex, SlotNames};
 use report::write_place;
 use std::alloc::{AllocError as NoMemory, Global};
 
-/// The name of the file, where its lines are, the class table, and of the method that is told the names of its slots and the offsets of
-/// its nodes.
+/// The name of the file, where its lines are, the class table, and of the method that is told the names of its slots, the offsets of its
+/// nodes, and the variable that helps it where it is made final, if there is one.
 #[derive(Clone, Copy)]
 pub struct Page<'t, 'a> {
     pub file: &'t str,
@@ -19,6 +19,21 @@ pub struct Page<'t, 'a> {
     pub table: &'t ClassTable<'a>,
     pub slots: &'t SlotNames<'a>,
     pub offsets: &'t [u32],
+    pub fitting: Option<u16>,
+}
+
+/// The same, with this variable for the method that is told.
+pub(crate) fn advised<'t, 'a>(page: &Page<'t, 'a>, fitting: Option<u16>) -> Page<'t, 'a>
+    ensures { page_data result ≡ advised (page_data page.now) fitting }
+{
+    Page {
+        file: page.file,
+        index: page.index,
+        table: page.table,
+        slots: page.slots,
+        offsets: page.offsets,
+        fitting,
+    }
 }
 
 /// The offset of a node; 0 where the method has no such node.

@@ -4,7 +4,7 @@ ghost use Rattle.std.specs.Prelude.{◌≡◌, ◌++◌, [], option_and_then, op
 ghost use Rattle.classes.specs.Views.{table_data};
 ghost use Rattle.report.specs.Verdicts.{field_text};
 ghost use Rattle.explain_text.specs.Views.{page_data};
-ghost use Rattle.explain_text.specs.Words.{access_text, field_title, held_list_text, lack_text, more_held, path_in};
+ghost use Rattle.explain_text.specs.Words.{access_text, field_title, held_list_text, is_fitting, lack_text, more_held, path_in, variable_words};
 
 use crate::page::Page;
 use classes::ClassTable;
@@ -103,6 +103,27 @@ pub(crate) fn write_held(
     write_more(out, page, rest)
 }
 
+/// Whether this is the variable that helps where it is made final.
+fn is_fitting(fitting: Option<u16>, slot: u16) -> bool
+    ensures { result ≡ is_fitting fitting slot }
+{
+    match fitting {
+        Some(other) => other == slot,
+        None => false,
+    }
+}
+
+/// What is said of a variable that isn't final, by whether it helps to make it final.
+fn variable_words(helps: bool) -> &'static str
+    ensures { result.now ≡ variable_words helps }
+{
+    if helps {
+        " isn't final"
+    } else {
+        " names no lock"
+    }
+}
+
 /// Writes why an expression has no path.
 pub(crate) fn write_lack(out: &mut String, page: &Page<'_, '_>, lack: Lack) -> Result<(), NoMemory>
     ensures { OnOk result (string_bytes out.new ≡ string_bytes out.old ++ lack_text (page_data page.now) lack) }
@@ -110,7 +131,7 @@ pub(crate) fn write_lack(out: &mut String, page: &Page<'_, '_>, lack: Lack) -> R
     match lack {
         Lack::Variable(slot) => {
             out.push_str(page.slots.name(slot))?;
-            out.push_str(" isn't final")
+            out.push_str(variable_words(is_fitting(page.fitting, slot)))
         }
         Lack::Field(field) => {
             write_field(out, page.table, field)?;

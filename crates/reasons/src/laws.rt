@@ -1,6 +1,6 @@
 //! What is known of the explanations of a least closed assignment.
 
-ghost use Rattle.std.specs.Prelude.{◌≡◌, ◌↔◌, ℕ, List, Contains, Some, false, true, slice_get};
+ghost use Rattle.std.specs.Prelude.{◌≡◌, ◌↔◌, ℕ, List, Contains, None, Some, false, true, slice_get};
 ghost use Rattle.algebra.specs.declared.basic.Basic.{Basic};
 ghost use Rattle.algebra.specs.Basics.{below_of};
 ghost use Rattle.algebra.specs.declared.basic.Basic.TheVariants.{Error, Mover};
@@ -18,6 +18,8 @@ ghost use Rattle.rules.specs.Search.{row_at};
 ghost use Rattle.explain.specs.declared.names.Alias.{Alias};
 ghost use Rattle.explain.specs.Causes.{cause_of};
 ghost use Rattle.explain.specs.Deeds.{help_of};
+ghost use Rattle.explain.specs.Finalising.{final_fits};
+ghost use Rattle.explain.specs.Fitting.{first_variable, fitting, IsFitting};
 ghost use Rattle.explain.specs.declared.grounds.Ground.{Ground};
 ghost use Rattle.explain.specs.declared.ranking.Bounds.{Bounds};
 ghost use Rattle.explain.specs.declared.ranking.Bounds.TheVariants.{Declared, Strict};
@@ -104,4 +106,16 @@ pub fn error_laws()
 pub fn help_laws()
     ensures { (P : Program) (rel : ℕ → List PathData) (A : Assignment) (aliases : List Alias) (x : Part) (H : Held) →
         below_of (own_of P rel A x H) Mover ≡ false → IsHelp P rel A x H (help_of P rel A aliases x H) }
+{}
+
+/// Where it is told of a variable that it isn't final, that is the first variable by which the method lacks the name of a lock; nothing assigns
+/// to it again, and with it final the method's body is at most what the method may be. Of the first one that isn't told so, to make it final
+/// doesn't help. That the changed program has the same assignment isn't said.
+pub fn final_laws()
+    ensures first { (P : Program) (rel : ℕ → List PathData) (A : Assignment) (aliases : List Alias) (x : ExplainedData) (method : Method) →
+        slice_get P.methods x.method ≡ Some method → (slot : ℕ) → fitting P rel A aliases x ≡ Some slot → first_variable P rel A aliases x.why ≡ Some slot }
+    ensures fits { (P : Program) (rel : ℕ → List PathData) (A : Assignment) (aliases : List Alias) (x : ExplainedData) (method : Method) →
+        slice_get P.methods x.method ≡ Some method → (slot : ℕ) → fitting P rel A aliases x ≡ Some slot → IsFitting P rel A method x.limit slot }
+    ensures none { (P : Program) (rel : ℕ → List PathData) (A : Assignment) (aliases : List Alias) (x : ExplainedData) (method : Method) →
+        slice_get P.methods x.method ≡ Some method → (slot : ℕ) → first_variable P rel A aliases x.why ≡ Some slot → fitting P rel A aliases x ≡ None → final_fits P rel A method x.limit slot ≡ false }
 {}

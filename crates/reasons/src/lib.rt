@@ -4,4 +4,6 @@
 
 mod laws;
 
-pub use laws::{error_laws, ground_laws, help_laws, least_laws, strict_laws, told_laws};
+pub use laws::{
+    error_laws, final_laws, ground_laws, help_laws, least_laws, strict_laws, told_laws,
+};
