@@ -23,7 +23,7 @@ use Rattle.witness.specs.declared.node.Node.{Node}
 use Rattle.witness.specs.declared.search.Search.{Search}
 use Rattle.witness.specs.Tables.{count_at}
 use Rattle.witness.specs.Nodes.{left_at, Covers, HasStepped, IsStart, StepsTo, IsChild, IsTwin}
-use Rattle.witness.specs.Searching.{searched, start_left, IsNode, InSet, Comes, LeadsIn}
+use Rattle.witness.specs.Searching.{searched, start_left, IsNode, WalksTo, InSet, Comes, LeadsIn}
 
 -- Who stands inside an atomic call.
 
@@ -105,20 +105,23 @@ module _ (s : Search) (n next : Node) (t : ℕ) (node : IsNode s n) (to : StepsT
       omega (arith, some, total)
   moved_one a b left u false is allowed total = omega (arith, total)
 
-  pub leads_node : allows s.counted (left_at n) t ≡ true → may_step n.busy t ≡ true → IsNode s next
-  leads_node allowed may =
-      let made = to.steps node.last node.stands in
+  pub leads_node : IsNode s next
+  leads_node = record {
+    runs = ap (λ m. m.program) to.behind.machine ∙ to.runs ∙ node.runs;
+    coded = ap (λ m. m.code) to.behind.machine ∙ to.coded ∙ node.coded;
+  }
+
+  pub leads_comes : (xs : List ℕ) → WalksTo s xs n → allows s.counted (left_at n) t ≡ true → may_step n.busy t ≡ true → WalksTo s (xs ++ t ∷ []) next
+  leads_comes xs comes allowed may =
+      let made = to.steps comes.last comes.stands in
       let r = made.0 in
-      let steps : step P node.last t ≡ Some r = ap (λ p. step p node.last t) (sym runs_still) ∙ made.1 in
+      let steps : step P comes.last t ≡ Some r = ap (λ p. step p comes.last t) (sym runs_still) ∙ made.1 in
       record {
-        runs = ap (λ m. m.program) to.behind.machine ∙ to.runs ∙ node.runs;
-        coded = ap (λ m. m.code) to.behind.machine ∙ to.coded ∙ node.coded;
         last = r;
         stands = stands_next r made.2;
-        came = λ more. ap (λ xs. walk P (initial P) None (xs ++ more)) to.behind.path
-            ∙ ap (walk P (initial P) None) (append_assoc n.path.items (t ∷ []) more)
-            ∙ node.came (t ∷ more)
-            ∙ begun P node.last n.busy t more r may steps
+        walks = λ more. ap (walk P (initial P) None) (append_assoc xs (t ∷ []) more)
+            ∙ comes.walks (t ∷ more)
+            ∙ begun P comes.last n.busy t more r may steps
             ∙ ap (λ b. walk P r b more) (sym (busy_next r made.2));
         total = λ counted u. total_next counted u;
       }
@@ -128,14 +131,13 @@ module _ (s : Search) (n next : Node) (t : ℕ) (node : IsNode s n) (to : StepsT
       some_left true x is h = h
       some_left false x is h = absurd cc
 
-      counts_more : (u : ℕ) → entry_counts (n.path.items ++ t ∷ []) u ≡ entry_counts n.path.items u + (if t == u then 1 else 0)
+      counts_more : (u : ℕ) → entry_counts (xs ++ t ∷ []) u ≡ entry_counts xs u + (if t == u then 1 else 0)
       counts_more u = grind (arith, common_steps)
 
-      total_next : s.counted ≡ true → (u : ℕ) → entry_counts next.path.items u + left_at next u ≡ start_left s u
+      total_next : s.counted ≡ true → (u : ℕ) → entry_counts (xs ++ t ∷ []) u + left_at next u ≡ start_left s u
       total_next counted u =
-          ap (λ xs. entry_counts xs u + left_at next u) to.behind.path
-          ∙ (λ i. counts_more u i + to.behind.counts u i)
-          ∙ moved_one (entry_counts n.path.items u) (start_left s u) (left_at n) u (t == u) refl (some_left s.counted (left_at n t) counted allowed) (node.total counted u)
+          (λ i. counts_more u i + to.behind.counts u i)
+          ∙ moved_one (entry_counts xs u) (start_left s u) (left_at n) u (t == u) refl (some_left s.counted (left_at n t) counted allowed) (comes.total counted u)
 
   pub leads_made : next.machine.made ≡ n.machine.made + 1
   leads_made = ap (λ m. m.made) to.behind.machine ∙ to.made
@@ -145,8 +147,8 @@ module _ (s : Search) (n next : Node) (t : ℕ) (node : IsNode s n) (to : StepsT
   leads_in nodes within q busy left r h allowed may steps = within r (must_step_next P r t) (less left t) (leads_covers q busy left r h steps)
 
 -- where there is no child no step leads anywhere
-pub no_child : (s : Search) (n : Node) (t : ℕ) (nodes : List Node) → IsNode s n → IsChild s.counted n t None → LeadsIn s nodes n t
-no_child s n t nodes node none q busy left r h allowed may steps =
+pub no_child : (s : Search) (n : Node) (place t : ℕ) (nodes : List Node) → IsNode s n → IsChild s.counted n place t None → LeadsIn s nodes n t
+no_child s n place t nodes node none q busy left r h allowed may steps =
     let here : allows s.counted (left_at n) t ≡ true = ap (λ f. allows s.counted f t) h.counts ∙ allowed in
     let free : may_step n.busy t ≡ true = ap (λ b. may_step b t) h.waits ∙ may in
     let gone : step (searched s) q t ≡ None = ap (λ p. step p q t) (sym (ap program_of node.runs)) ∙ none here free q h.stands in
@@ -154,16 +156,14 @@ no_child s n t nodes node none q busy left r h allowed may steps =
 
 -- The node at the start.
 pub start_node : (s : Search) (n : Node) → IsStart s.program.now s.code.now s.left.now n → IsNode s n
-start_node s n start = record {
-  runs = start.runs;
-  coded = start.coded;
+start_node s n start = record { runs = start.runs; coded = start.coded }
+
+pub start_comes : (s : Search) (n : Node) → IsStart s.program.now s.code.now s.left.now n → WalksTo s [] n
+start_comes s n start = record {
   last = initial (searched s);
   stands = start.stands;
-  came = λ more. ap (λ xs. walk (searched s) (initial (searched s)) None (xs ++ more)) start.path ∙ ap (λ b. walk (searched s) (initial (searched s)) b more) (sym start.waits);
-  total = λ counted t.
-      let none : entry_counts n.path.items t ≡ 0 = ap (λ xs. entry_counts xs t) start.path in
-      let all : left_at n t ≡ start_left s t = ap (λ xs. count_at xs t) start.counts in
-      omega (arith, none, all);
+  walks = λ more. ap (λ b. walk (searched s) (initial (searched s)) b more) (sym start.waits);
+  total = λ counted t. let same : left_at n t ≡ start_left s t = ap (λ xs. count_at xs t) start.counts in omega (arith, same);
 }
 
 pub start_covers : (s : Search) (n : Node) → IsStart s.program.now s.code.now s.left.now n → Covers n (initial (searched s)) None (start_left s)

@@ -1,10 +1,10 @@
 -- Nodes that are passed while one thread goes on alone.
-use Rattle.std.proofs.Common.{◌≡◌, ℕ, ◌<◌, Bool, true, false, ◌++◌, refl, sym, ap, subst, ◌∙◌, ◌+◌}
+use Rattle.std.proofs.Common.{◌≡◌, ℕ, ◌<◌, Bool, true, false, List, [], ◌∷◌, ◌++◌, refl, sym, ap, subst, ◌∙◌, ◌+◌, append_assoc}
 use Rattle.std.specs.Prelude.{Option, Some, None, IfSome, if◌then◌else◌}
 use Rattle.std.proofs.lemmas.Option.{same_Some}
 use Rattle.std.proofs.lemmas.Bool.{eq-eqb}
 use Rattle.core_program.specs.Views.{program_of}
-use Rattle.state.specs.States.{State, initial}
+use Rattle.state.specs.States.{State}
 use Rattle.semantics.specs.Run.{inside}
 use Rattle.semantics.specs.Step.{step}
 use Rattle.machine.specs.Standing.{StandsFor, IsSame}
@@ -17,8 +17,8 @@ use Rattle.witness.specs.Walks.{walk, may_step, must_step_next, entry_counts, le
 use Rattle.witness.specs.Judging.{AreLike}
 use Rattle.witness.specs.Nodes.{left_at, Covers, StepsTo, IsAdvanced}
 use Rattle.witness.specs.Unseen.{HasUnseenStep, is_there, goes_on, comes_at_once, IsOfShared}
-use Rattle.witness.specs.Searching.{searched, IsNode, Comes, IsEndSought, IsAlone, IsLone, IsPassed}
-use Rattle.witness.proofs.NodeLemmas.{stands_too, leads_covers, leads_node}
+use Rattle.witness.specs.Searching.{searched, IsNode, WalksTo, Comes, IsEndSought, IsAlone, IsLone, IsPassed}
+use Rattle.witness.proofs.NodeLemmas.{stands_too, leads_covers, leads_node, leads_comes}
 use Rattle.witness.proofs.UnseenSteps.{unseen_next, unseen_steps, unseen_outside}
 
 -- what comes to nodes from which the search comes further comes further
@@ -65,31 +65,36 @@ module _ (s : Search) (m k : Node) (t : ℕ) (node : IsNode s m) (to : StepsTo m
   may_alone None alone = refl
   may_alone (Some u) alone = eq-eqb t u (sym alone.0)
 
-  lone_node : IsLone s m t → IsNode s k
-  lone_node lone = leads_node s m k t node to lone.allowed (may_alone m.busy lone.alone)
+  lone_comes : IsLone s m t → (xs : List ℕ) → WalksTo s xs m → WalksTo s (xs ++ t ∷ []) k
+  lone_comes lone xs comes = leads_comes s m k t node to xs comes lone.allowed (may_alone m.busy lone.alone)
 
 pub passed_none : (s : Search) (n : Node) → IsNode s n → IsPassed s n n
-passed_none s n node = record { node = node; comes = λ q busy left h. is_there q busy left h }
+passed_none s n node = record { node = node; from = refl; steps = λ before comes. comes; comes = λ q busy left h. is_there q busy left h }
 
-pub passed_one : (s : Search) (n m k : Node) (t : ℕ) → IsPassed s n m → IsLone s m t → StepsTo m t k → IsPassed s n k
+pub passed_one : (s : Search) (n m k : Node) (t : ℕ) → IsPassed s n m → IsLone s m t → IsAdvanced m t k true → IsPassed s n k
 passed_one s n m k t passed lone to = record {
-  node = lone_node s m k t passed.node to lone;
-  comes = λ q busy left h. comes_then s (Covers m) (Covers k) (covers_comes s m k t passed.node to lone) q busy left (passed.comes q busy left h);
+  node = leads_node s m k t passed.node to.0;
+  from = to.1 ∙ passed.from;
+  steps = λ before comes.
+      subst (λ xs. WalksTo s xs k) (append_assoc before m.steps.items (t ∷ []) ∙ ap (λ xs. before ++ xs) (sym to.2))
+      (lone_comes s m k t passed.node to.0 lone (before ++ m.steps.items) (passed.steps before comes));
+  comes = λ q busy left h. comes_then s (Covers m) (Covers k) (covers_comes s m k t passed.node to.0 lone) q busy left (passed.comes q busy left h);
 }
 
 -- Where there was no step the node is as it was.
-module _ (s : Search) (m k : Node) (node : IsNode s m) (machine : IsSame k.machine m.machine) (busy : k.busy ≡ m.busy) (left : k.left.items ≡ m.left.items) (path : k.path.items ≡ m.path.items) where
+module _ (s : Search) (m k : Node) (node : IsNode s m) (machine : IsSame k.machine m.machine) (busy : k.busy ≡ m.busy) (left : k.left.items ≡ m.left.items) where
   still_stands : (q : State) → StandsFor m.machine q → StandsFor k.machine q
   still_stands q h = stands_too k.machine m.machine q machine.program machine.code machine.state h
 
   still_node : IsNode s k
-  still_node = record {
-    runs = machine.program ∙ node.runs;
-    coded = machine.code ∙ node.coded;
-    last = node.last;
-    stands = still_stands node.last node.stands;
-    came = λ more. ap (λ xs. walk (searched s) (initial (searched s)) None (xs ++ more)) path ∙ node.came more ∙ ap (λ b. walk (searched s) node.last b more) (sym busy);
-    total = λ counted u. (λ i. entry_counts (path i) u + count_at (left i) u) ∙ node.total counted u;
+  still_node = record { runs = machine.program ∙ node.runs; coded = machine.code ∙ node.coded }
+
+  still_comes : (xs : List ℕ) → WalksTo s xs m → WalksTo s xs k
+  still_comes xs comes = record {
+    last = comes.last;
+    stands = still_stands comes.last comes.stands;
+    walks = λ more. comes.walks more ∙ ap (λ b. walk (searched s) comes.last b more) (sym busy);
+    total = λ counted u. (λ i. entry_counts xs u + count_at (left i) u) ∙ comes.total counted u;
   }
 
   still_covers : (q : State) (b : Option ℕ) (l : ℕ → ℕ) → Covers m q b l → Covers k q b l
@@ -97,8 +102,10 @@ module _ (s : Search) (m k : Node) (node : IsNode s m) (machine : IsSame k.machi
 
 pub passed_still : (s : Search) (n m k : Node) (t : ℕ) → IsPassed s n m → IsAdvanced m t k false → IsPassed s n k
 passed_still s n m k t passed still = record {
-  node = still_node s m k passed.node still.0 still.1 still.2 still.3;
-  comes = λ q busy left h. comes_then s (Covers m) (Covers k) (λ p b l c. is_there p b l (still_covers s m k passed.node still.0 still.1 still.2 still.3 p b l c)) q busy left (passed.comes q busy left h);
+  node = still_node s m k passed.node still.0 still.1 still.2;
+  from = still.3 ∙ passed.from;
+  steps = λ before comes. still_comes s m k passed.node still.0 still.1 still.2 (before ++ k.steps.items) (subst (λ xs. WalksTo s (before ++ xs) m) (sym still.4) (passed.steps before comes));
+  comes = λ q busy left h. comes_then s (Covers m) (Covers k) (λ p b l c. is_there p b l (still_covers s m k passed.node still.0 still.1 still.2 p b l c)) q busy left (passed.comes q busy left h);
 }
 
 -- who goes on alone where nobody has to go on

@@ -27,8 +27,8 @@ use Rattle.witness.specs.declared.node.Node.{Node}
 use Rattle.witness.specs.declared.search.Search.{Search}
 use Rattle.witness.specs.Judging.{AreLike, IsGoal, IsJudged, IsJudgedWhole}
 use Rattle.witness.specs.Nodes.{left_at, Covers, IsStart, IsTwin, IsChild}
-use Rattle.witness.specs.Searching.{searched, start_left, IsNode, AreNodes, InSet, Extends, IsEndSought, IsPassed, LeadsIn, IsNodeAdded, IsNodeReached, IsFollowed, IsExpanded, IsFound}
-use Rattle.witness.proofs.NodeLemmas.{twin_covers, leads_node, leads_in, no_child, start_node, start_covers}
+use Rattle.witness.specs.Searching.{searched, start_left, IsNode, WalksTo, IsScheduleTo, at_start, on_from, AreNodes, IsNextNode, InSet, Extends, IsEndSought, IsPassed, LeadsIn, IsNodeAdded, IsNodeReached, IsFollowed, IsExpanded, IsFound}
+use Rattle.witness.proofs.NodeLemmas.{twin_covers, leads_node, leads_comes, leads_in, no_child, start_node, start_comes, start_covers}
 
 pub same_extends : (nodes : List Node) → Extends nodes nodes
 same_extends nodes k n there = there
@@ -42,6 +42,11 @@ in_more old new extends q busy left within = (within.0, within.1, extends within
 pub leads_more : (s : Search) (old new : List Node) (n : Node) (t : ℕ) → Extends old new → LeadsIn s old n t → LeadsIn s new n t
 leads_more s old new n t extends leads q busy left next h allowed may steps =
     comes_then s (InSet old) (InSet new) (λ p b l there. is_there p b l (in_more old new extends p b l there)) next (must_step_next (searched s) next t) (less left t) (leads q busy left next h allowed may steps)
+
+-- where nodes are added the schedules that lead to the others stay
+pub leads_to_more : (old new : List Node) → Extends old new → (place : ℕ) (r : List ℕ) → IsScheduleTo old place r → IsScheduleTo new place r
+leads_to_more old new extends _ _ at_start = at_start
+leads_to_more old new extends _ _ (on_from place n before there earlier leads) = on_from place n before (extends place n there) earlier (leads_to_more old new extends n.from before leads)
 
 -- A node is added.
 
@@ -62,18 +67,37 @@ last_is : (n m : Node) (j : ℕ) → slice_get (n ∷ []) j ≡ Some m → (n �
 last_is n m zero there = (same_Some n m there, refl)
 last_is n m (suc j) there = absurd cc
 
-pub one_more : (s : Search) (nodes : List Node) (n : Node) → AreNodes s nodes → IsNode s n → n.machine.made < 4294967295 → AreNodes s (nodes ++ n ∷ [])
-one_more s nodes n are node few = record {
-  each = λ k m there. elim (at_either nodes (n ∷ []) k m there) [ inl h ↦ are.each k m h | inr h ↦ subst (IsNode s) (last_is n m h.0 h.2).0 node ];
+pub one_more : (s : Search) (nodes : List Node) (n : Node) → AreNodes s nodes → IsNextNode s nodes n → n.machine.made < 4294967295 → AreNodes s (nodes ++ n ∷ [])
+one_more s nodes n are next few = record {
+  each = λ k m there. elim (at_either nodes (n ∷ []) k m there) [ inl h ↦ are.each k m h | inr h ↦ subst (IsNode s) (last_is n m h.0 h.2).0 next.node ];
   few = λ k m there. elim (at_either nodes (n ∷ []) k m there) [
     | inl h ↦ are.few k m h
     | inr h ↦ subst (λ (x : Node). x.machine.made < 4294967295) (last_is n m h.0 h.2).0 few
   ];
+  come = λ k m there. elim (at_either nodes (n ∷ []) k m there) [
+    | inl h ↦ old_comes k m h
+    | inr h ↦ let last = last_is n m h.0 h.2 in new_comes k m last.0 (omega (arith, h.1, last.1)) there
+  ];
 }
+  where
+    extends : Extends nodes (nodes ++ n ∷ [])
+    extends k m there = at_left nodes (n ∷ []) k m there
 
-pub new_added : (s : Search) (nodes new : List Node) (n : Node) (room : Bool) → new ≡ nodes ++ n ∷ [] → AreNodes s nodes → IsNode s n → n.machine.made < 4294967295 → IsNodeAdded s nodes new n room
-new_added s nodes new n room is are node few = subst (λ xs. IsNodeAdded s nodes xs n room) (sym is) (record {
-  nodes = one_more s nodes n are node few;
+    old_comes : (k : ℕ) (m : Node) → slice_get nodes k ≡ Some m → (r : List ℕ) × IsScheduleTo (nodes ++ n ∷ []) k r × WalksTo s r m
+    old_comes k m there = let come = are.come k m there in (come.0, leads_to_more nodes (nodes ++ n ∷ []) extends k come.0 come.1, come.2)
+
+    new_comes : (k : ℕ) (m : Node) → n ≡ m → k ≡ length nodes → slice_get (nodes ++ n ∷ []) k ≡ Some m → (r : List ℕ) × IsScheduleTo (nodes ++ n ∷ []) k r × WalksTo s r m
+    new_comes k m same is there =
+        let earlier : n.from < k = omega (arith, next.earlier, is) in
+        subst (λ (x : Node). (r : List ℕ) × IsScheduleTo (nodes ++ n ∷ []) k r × WalksTo s r x) same (
+          next.before ++ n.steps.items,
+          on_from k n next.before (there ∙ ap Some (sym same)) earlier (leads_to_more nodes (nodes ++ n ∷ []) extends n.from next.before next.leads),
+          next.comes,
+        )
+
+pub new_added : (s : Search) (nodes new : List Node) (n : Node) (room : Bool) → new ≡ nodes ++ n ∷ [] → AreNodes s nodes → IsNextNode s nodes n → n.machine.made < 4294967295 → IsNodeAdded s nodes new n room
+new_added s nodes new n room is are next few = subst (λ xs. IsNodeAdded s nodes xs n room) (sym is) (record {
+  nodes = one_more s nodes n are next few;
   extends = λ k m there. at_left nodes (n ∷ []) k m there;
   within = λ room_is q busy left h. (length nodes, n, get_last nodes n, h);
 })
@@ -86,11 +110,28 @@ reached_added s old new n m room passed added = record {
   within = λ is q busy left h. comes_then s (Covers m) (InSet new) (λ p b l c. is_there p b l (added.within is p b l c)) q busy left (passed.comes q busy left h);
 }
 
+-- behind a node that may be added, the one to which the search went on may be
+pub passed_next : (s : Search) (nodes : List Node) (n m : Node) → IsNextNode s nodes n → IsPassed s n m → IsNextNode s nodes m
+passed_next s nodes n m next passed = record {
+  node = passed.node;
+  earlier = omega (arith, passed.from, next.earlier);
+  before = next.before;
+  leads = subst (λ k. IsScheduleTo nodes k next.before) (sym passed.from) next.leads;
+  comes = passed.steps next.before next.comes;
+}
+
 -- the first node, at the start
+only_node : (s : Search) (n : Node) → IsStart s.program.now s.code.now s.left.now n → AreNodes s (n ∷ [])
+only_node s n start = record {
+  each = λ k m there. subst (IsNode s) (last_is n m k there).0 (start_node s n start);
+  few = λ k m there. subst (λ (x : Node). x.machine.made < 4294967295) (last_is n m k there).0 (omega (arith, start.made));
+  come = λ k m there.
+      let last = last_is n m k there in
+      ([], subst (λ j. IsScheduleTo (n ∷ []) j []) (sym last.1) at_start, subst (WalksTo s []) last.0 (start_comes s n start));
+}
+
 pub first_nodes : (s : Search) (nodes old : List Node) (n : Node) → old ≡ [] → nodes ≡ old ++ n ∷ [] → IsStart s.program.now s.code.now s.left.now n → AreNodes s nodes
-first_nodes s nodes old n none is start =
-    subst (AreNodes s) (sym (is ∙ ap (λ xs. xs ++ n ∷ []) none))
-    (one_more s [] n (record { each = λ k m there. absurd cc; few = λ k m there. absurd cc }) (start_node s n start) (omega (arith, start.made)))
+first_nodes s nodes old n none is start = subst (AreNodes s) (sym (is ∙ ap (λ xs. xs ++ n ∷ []) none)) (only_node s n start)
 
 pub first_set : (s : Search) (nodes old : List Node) (n : Node) → old ≡ [] → nodes ≡ old ++ n ∷ [] → IsStart s.program.now s.code.now s.left.now n → InSet nodes (initial (searched s)) None (start_left s)
 first_set s nodes old n none is start = (0, n, ap (λ xs. slice_get xs 0) (is ∙ ap (λ xs. xs ++ n ∷ []) none), start_covers s n start)
@@ -114,10 +155,19 @@ pub node_at : (nodes : List Node) (n : Node) (k : ℕ) → k < length nodes → 
 node_at nodes n k within is = slice_get-get_or nodes k n within ∙ ap Some (sym is)
 
 module _ (s : Search) (nodes : List Node) (n : Node) (place t : ℕ) (here : slice_get nodes place ≡ Some n) (are : AreNodes s nodes) where
-  pub child_node : (next : Node) → IsChild s.counted n t (Some next) → IsNode s next
-  child_node next child = leads_node s n next t (are.each place n here) child.2 child.0 child.1
+  pub child_node : (next : Node) → IsChild s.counted n place t (Some next) → IsNextNode s nodes next
+  child_node next child =
+      let come = are.come place n here in
+      let within = slice_get_within nodes place n here in
+      record {
+        node = leads_node s n next t (are.each place n here) child.2;
+        earlier = omega (arith, child.3, within);
+        before = come.0;
+        leads = subst (λ k. IsScheduleTo nodes k come.0) (sym child.3) come.1;
+        comes = subst (λ xs. WalksTo s (come.0 ++ xs) next) (sym child.4) (leads_comes s n next t (are.each place n here) child.2 come.0 come.2 child.0 child.1);
+      }
 
-  pub child_followed : (new : List Node) (next : Node) (room : Bool) → IsChild s.counted n t (Some next) → IsNodeReached s nodes new next room → IsFollowed s nodes new place t room
+  pub child_followed : (new : List Node) (next : Node) (room : Bool) → IsChild s.counted n place t (Some next) → IsNodeReached s nodes new next room → IsFollowed s nodes new place t room
   child_followed new next room child added = record {
     nodes = added.nodes;
     extends = added.extends;
@@ -126,13 +176,13 @@ module _ (s : Search) (nodes : List Node) (n : Node) (place t : ℕ) (here : sli
         subst (λ x. LeadsIn s new x t) same (leads_in s n next t (are.each place n here) child.2 new (added.within is));
   }
 
-  pub none_leads : IsChild s.counted n t None → IsFollowed s nodes nodes place t true
+  pub none_leads : IsChild s.counted n place t None → IsFollowed s nodes nodes place t true
   none_leads none = record {
     nodes = are;
     extends = same_extends nodes;
     leads = λ is m there.
         let same : n ≡ m = same_Some n m (sym here ∙ there) in
-        subst (λ x. LeadsIn s nodes x t) same (no_child s n t nodes (are.each place n here) none);
+        subst (λ x. LeadsIn s nodes x t) same (no_child s n place t nodes (are.each place n here) none);
   }
 
 -- What is found.
@@ -162,23 +212,23 @@ module _ (s : Search) (q : State) where
         (is_there (initial (searched s)) None none_left (subst (InSet nodes (initial (searched s)) None) none start)),
   )
 
-  pub kept_found : (n : Node) (r : Vec ℕ Global) → r.items ≡ n.path.items → IsNode s n → ((e : State) → Covers n e n.busy (left_at n) → Like q e) → ((t : ℕ) → left_at n t ≡ 0) → IsFound s q (answer.Kept r)
-  kept_found n r is node like zeros = (
-    node.last,
-    ap (walk (searched s) (initial (searched s)) None) (is ∙ sym (append-nil n.path.items)) ∙ node.came [],
-    like node.last (record { stands = node.stands; waits = refl; counts = refl }),
-    λ counted t. ap (λ xs. entry_counts xs t) is ∙ total counted t,
+  pub kept_found : (n : Node) (r : Vec ℕ Global) → WalksTo s r.items n → ((e : State) → Covers n e n.busy (left_at n) → Like q e) → ((t : ℕ) → left_at n t ≡ 0) → IsFound s q (answer.Kept r)
+  kept_found n r comes like zeros = (
+    comes.last,
+    ap (walk (searched s) (initial (searched s)) None) (sym (append-nil r.items)) ∙ comes.walks [],
+    like comes.last (record { stands = comes.stands; waits = refl; counts = refl }),
+    λ counted t. total counted t,
   )
     where
-      total : s.counted ≡ true → (t : ℕ) → entry_counts n.path.items t ≡ start_left s t
-      total counted t = let sum = node.total counted t in omega (arith, sum, zeros t)
+      total : s.counted ≡ true → (t : ℕ) → entry_counts r.items t ≡ start_left s t
+      total counted t = let sum = comes.total counted t in omega (arith, sum, zeros t)
 
 -- the node at a place, at an end that is looked for
-pub kept_at : (s : Search) (q : State) (nodes : List Node) (place : ℕ) (n m : Node) (b : Bool) (r : Vec ℕ Global) → slice_get nodes place ≡ Some n → slice_get nodes place ≡ Some m → AreNodes s nodes → r.items ≡ m.path.items
+pub kept_at : (s : Search) (q : State) (nodes : List Node) (place : ℕ) (n : Node) (b : Bool) (r : Vec ℕ Global) → slice_get nodes place ≡ Some n → AreNodes s nodes → ((xs : List ℕ) → IsScheduleTo nodes place xs → r.items ≡ xs)
     → IsGoal s.goal q → b ≡ true → ((p e : State) → IsGoal s.goal p → Covers n e n.busy (left_at n) → b ≡ true → AreLike s.goal.by p e) → (b ≡ true → (t : ℕ) → left_at n t ≡ 0) → IsFound s q (answer.Kept r)
-kept_at s q nodes place n m b r one other are is goal so like used =
-    let same : m ≡ n = same_Some m n (sym other ∙ one) in
-    kept_found s q n r (is ∙ ap (λ x. x.path.items) same) (are.each place n one) (λ e covers. like q e goal covers so) (used so)
+kept_at s q nodes place n b r there are is goal so like used =
+    let come = are.come place n there in
+    kept_found s q n r (subst (λ xs. WalksTo s xs n) (sym (is come.0 come.1)) come.2) (λ e covers. like q e goal covers so) (used so)
 
 -- What is judged.
 

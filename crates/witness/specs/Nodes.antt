@@ -35,14 +35,12 @@ pub record IsStart (program : CoreProgram) (code : CodeTable) (left : List ℕ) 
   pub stands : StandsFor n.machine (initial (program_of program))
   pub waits : n.busy ≡ None
   pub counts : n.left.items ≡ left
-  pub path : n.path.items ≡ []
 
 -- the node behind another one, with this machine after a step of a thread
 pub record IsBehind (n : Node) (m : MachineValue) (t : ℕ) (next : Node) : Type 0 where
   pub machine : next.machine ≡ m
   pub waits : (q : State) → StandsFor m q → next.busy ≡ must_step_next (program_run m) q t
   pub counts : (u : ℕ) → left_at next u ≡ less (left_at n) t u
-  pub path : next.path.items ≡ n.path.items ++ t ∷ []
 
 -- a step of a thread of a node leads there
 pub record StepsTo (n : Node) (t : ℕ) (next : Node) : Type 0 where
@@ -53,17 +51,18 @@ pub record StepsTo (n : Node) (t : ℕ) (next : Node) : Type 0 where
   pub made : machine.made ≡ n.machine.made + 1
   pub steps : (q : State) → StandsFor n.machine q → HasStepped (program_run n.machine) q t (Some machine)
 
--- the child of a node by a step of a thread: it leads there, and interrupts nobody; none where there is no such step
-abbrev pub IsChild : Bool → Node → ℕ → Option Node → Type 0
-IsChild counted n t None = allows counted (left_at n) t ≡ true → may_step n.busy t ≡ true → (q : State) → StandsFor n.machine q → step (program_run n.machine) q t ≡ None
-IsChild counted n t (Some next) = (allows counted (left_at n) t ≡ true) × (may_step n.busy t ≡ true) × StepsTo n t next
+-- The child of the node at a place by a step of a thread: this step leads there, and interrupts nobody; none where there is no such
+-- step.
+abbrev pub IsChild : Bool → Node → (place : ℕ) → ℕ → Option Node → Type 0
+IsChild counted n place t None = allows counted (left_at n) t ≡ true → may_step n.busy t ≡ true → (q : State) → StandsFor n.machine q → step (program_run n.machine) q t ≡ None
+IsChild counted n place t (Some next) = (allows counted (left_at n) t ≡ true) × (may_step n.busy t ≡ true) × StepsTo n t next × (next.from ≡ place) × (next.steps.items ≡ t ∷ [])
 
 -- a node after a step of a thread from it; the same node where there was none
 abbrev pub IsAdvanced : Node → ℕ → Node → Bool → Type 0
-IsAdvanced n t next true = StepsTo n t next
-IsAdvanced n t next false = IsSame next.machine n.machine × (next.busy ≡ n.busy) × (next.left.items ≡ n.left.items) × (next.path.items ≡ n.path.items)
+IsAdvanced n t next true = StepsTo n t next × (next.from ≡ n.from) × (next.steps.items ≡ n.steps.items ++ t ∷ [])
+IsAdvanced n t next false = IsSame next.machine n.machine × (next.busy ≡ n.busy) × (next.left.items ≡ n.left.items) × (next.from ≡ n.from) × (next.steps.items ≡ n.steps.items)
 
--- two nodes are the same, but for the schedules that led there
+-- two nodes are the same, but for the steps that led there
 pub record IsTwin (n m : Node) : Type 0 where
   pub waits : n.busy ≡ m.busy
   pub counts : n.left.items ≡ m.left.items

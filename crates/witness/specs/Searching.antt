@@ -1,5 +1,5 @@
 -- The search: what it knows of its nodes, and what it finds.
-use Rattle.std.specs.Prelude.{◌≡◌, ℕ, ◌+◌, ◌<◌, Bool, true, false, List, ◌++◌, Option, Some, None, slice_get}
+use Rattle.std.specs.Prelude.{◌≡◌, ℕ, ◌+◌, ◌<◌, Bool, true, false, List, [], ◌++◌, length, Option, Some, None, slice_get}
 use Rattle.core_program.specs.Core.{Program}
 use Rattle.core_program.specs.Views.{program_of}
 use Rattle.state.specs.States.{State, initial}
@@ -32,20 +32,38 @@ IsEndSought s e = (q : State) × IsGoal s.goal q × AreLike s.goal.by q e
 abbrev pub Comes : Search → (State → Option ℕ → (ℕ → ℕ) → Type 0) → State → Option ℕ → (ℕ → ℕ) → Type 0
 Comes s Node = GoesAlone (searched s) s.counted (IsEndSought s) Node
 
--- What holds of each node: its machine runs the program, its schedule walks to a state that the machine stands for, and what
--- was left at the start is what the schedule has and what is left.
+-- a node's machine runs the program
 pub record IsNode (s : Search) (n : Node) : Type 0 where
   pub runs : n.machine.program ≡ s.program.now
   pub coded : n.machine.code ≡ s.code.now
+
+-- A schedule walks to a node: to a state that the machine stands for, and what was left at the start is what the schedule has and
+-- what is left.
+pub record WalksTo (s : Search) (r : List ℕ) (n : Node) : Type 0 where
   pub last : State
   pub stands : StandsFor n.machine last
-  pub came : (more : List ℕ) → walk (searched s) (initial (searched s)) None (n.path.items ++ more) ≡ walk (searched s) last n.busy more
-  pub total : s.counted ≡ true → (t : ℕ) → entry_counts n.path.items t + left_at n t ≡ start_left s t
+  pub walks : (more : List ℕ) → walk (searched s) (initial (searched s)) None (r ++ more) ≡ walk (searched s) last n.busy more
+  pub total : s.counted ≡ true → (t : ℕ) → entry_counts r t + left_at n t ≡ start_left s t
 
--- each is such a node, and its machine can count one step more
+-- The schedule to the node at a place. That to the first one is empty. That to another one is the schedule to the node from which it
+-- was reached, which stands before it, and then its steps.
+pub data IsScheduleTo (nodes : List Node) : ℕ → List ℕ → Type 0 where
+  at_start : IsScheduleTo nodes 0 []
+  on_from : (place : ℕ) (n : Node) (before : List ℕ) → slice_get nodes place ≡ Some n → n.from < place → IsScheduleTo nodes n.from before → IsScheduleTo nodes place (before ++ n.steps.items)
+
+-- each is such a node, its machine can count one step more, and the schedule to its place walks to it
 pub record AreNodes (s : Search) (nodes : List Node) : Type 0 where
   pub each : (k : ℕ) (n : Node) → slice_get nodes k ≡ Some n → IsNode s n
   pub few : (k : ℕ) (n : Node) → slice_get nodes k ≡ Some n → n.machine.made < 4294967295
+  pub come : (k : ℕ) (n : Node) → slice_get nodes k ≡ Some n → (r : List ℕ) × IsScheduleTo nodes k r × WalksTo s r n
+
+-- such a node that may be added: the schedule to the node from which it was reached, and then its steps, walk to it
+pub record IsNextNode (s : Search) (nodes : List Node) (n : Node) : Type 0 where
+  pub node : IsNode s n
+  pub earlier : n.from < length nodes
+  pub before : List ℕ
+  pub leads : IsScheduleTo nodes n.from before
+  pub comes : WalksTo s (before ++ n.steps.items) n
 
 -- some node is the one for this
 abbrev pub InSet : List Node → State → Option ℕ → (ℕ → ℕ) → Type 0
@@ -83,9 +101,12 @@ pub record IsLone (s : Search) (n : Node) (t : ℕ) : Type 0 where
   pub few : n.machine.made < 4294967295
   pub alone : IsAlone s n t n.busy
 
--- the search went on alone from one node to another
+-- The search went on alone from one node to another. A schedule before both that walks with the steps of the first one to it
+-- walks with those of the second one to that.
 pub record IsPassed (s : Search) (n m : Node) : Type 0 where
   pub node : IsNode s m
+  pub from : m.from ≡ n.from
+  pub steps : (before : List ℕ) → WalksTo s (before ++ n.steps.items) n → WalksTo s (before ++ m.steps.items) m
   pub comes : (q : State) (busy : Option ℕ) (left : ℕ → ℕ) → Covers n q busy left → Comes s (Covers m) q busy left
 
 -- each step of a thread behind a node leads into the set, where there was room

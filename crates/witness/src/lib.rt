@@ -14,6 +14,7 @@ mod order_laws;
 mod passing;
 mod places;
 mod plans;
+mod schedules;
 mod search;
 mod seeking;
 mod table;

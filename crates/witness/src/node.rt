@@ -1,5 +1,5 @@
 //! Nodes of the search: a machine, who has to go on there, and the entries that are left.
-ghost use Rattle.std.specs.Prelude.{◌≡◌, ◌≢◌, ◌+◌, ◌<◌, Option, Some, None, true, IfOk, OnOk, IfSome};
+ghost use Rattle.std.specs.Prelude.{◌≡◌, ◌≢◌, ◌+◌, ◌<◌, ◌∷◌, [], Option, Some, None, true, IfOk, OnOk, IfSome};
 ghost use Rattle.core_program.specs.Views.{program_of};
 ghost use Rattle.state.specs.States.{State};
 ghost use Rattle.compile.specs.IsCode.{IsCodeOf};
@@ -16,13 +16,15 @@ use core_program::CoreProgram;
 use machine::{Machine, StepEnd};
 use std::alloc::{AllocError as NoMemory, Global};
 
-/// A node of the search: a machine, who has to go on there, the entries that are left, and a schedule that led there.
+/// A node of the search: a machine, who has to go on there, and the entries that are left. These steps led there from the node
+/// at this place.
 #[derive(Drop)]
 pub(crate) struct Node<'p> {
     pub(crate) machine: Machine<'p>,
     pub(crate) busy: Option<u32>,
     pub(crate) left: Vec<u32>,
-    pub(crate) path: Vec<u32>,
+    pub(crate) from: usize,
+    pub(crate) steps: Vec<u32>,
 }
 
 /// A copy of some numbers.
@@ -48,7 +50,8 @@ pub(crate) fn start<'p>(
         machine: Machine::start(alloc, program, code)?,
         busy: None,
         left: copied(alloc, left)?,
-        path: Vec::new(alloc),
+        from: 0,
+        steps: Vec::new(alloc),
     })
 }
 
@@ -117,38 +120,42 @@ fn stepped<'p>(
     }
 }
 
-/// The node behind this one, with the machine after a step of this thread.
+/// The node behind this one, which stands at this place, with the machine after a step of this thread.
 fn behind<'p>(
     alloc: Global,
     node: &Node<'p>,
+    place: usize,
     machine: Machine<'p>,
     thread: u32,
 ) -> Result<Node<'p>, NoMemory>
-    ensures { IfOk result (IsBehind node.now machine.entry thread) }
+    ensures behind { IfOk result (IsBehind node.now machine.entry thread) }
+    ensures from { IfOk result (λ next. next.from ≡ place) }
+    ensures steps { IfOk result (λ next. next.steps.items ≡ thread ∷ []) }
 {
     let busy = goes_on(&machine, thread);
     let mut left = copied(alloc, node.left.as_slice())?;
     use_one(&mut left, thread);
-    let mut path = Vec::with_capacity(alloc, node.path.len() + 1)?;
-    path.extend_from_slice(node.path.as_slice())?;
-    path.push(thread)?;
+    let mut steps = Vec::new(alloc);
+    steps.push(thread)?;
     Ok(Node {
         machine,
         busy,
         left,
-        path,
+        from: place,
+        steps,
     })
 }
 
-/// The node behind a step of a thread that interrupts nobody; none where there is no such step.
+/// The node behind a step of a thread that interrupts nobody, from the node at this place; none where there is no such step.
 pub(crate) fn child<'p>(
     alloc: Global,
     node: &Node<'p>,
+    place: usize,
     counted: bool,
     thread: u32,
 ) -> Result<Option<Node<'p>>, NoMemory>
     requires { node.now.machine.made < 4294967295 }
-    ensures { IfOk result (IsChild counted node.now thread) }
+    ensures { IfOk result (IsChild counted node.now place thread) }
 {
     if !may_step(node.busy, thread) {
         return Ok(None);
@@ -157,7 +164,7 @@ pub(crate) fn child<'p>(
         return Ok(None);
     }
     match stepped(alloc, &node.machine, thread)? {
-        Some(machine) => Ok(Some(behind(alloc, node, machine, thread)?)),
+        Some(machine) => Ok(Some(behind(alloc, node, place, machine, thread)?)),
         None => Ok(None),
     }
 }
@@ -178,7 +185,7 @@ pub(crate) fn advance(alloc: Global, node: &mut Node<'_>, thread: u32) -> Result
         Ok(()) => {
             node.busy = goes_on(&node.machine, thread);
             use_entry(&mut node.left, thread);
-            node.path.push(thread)?;
+            node.steps.push(thread)?;
             Ok(true)
         }
         Err(why) => {
@@ -208,7 +215,7 @@ fn same_left(one: &[u32], other: &[u32]) -> bool
     one == other
 }
 
-/// Whether two nodes are the same, but for the schedules that led there.
+/// Whether two nodes are the same, but for the steps that led there.
 pub(crate) fn is_twin(one: &Node<'_>, other: &Node<'_>) -> bool
     ensures { result ≡ true → IsTwin one.now other.now }
 {

@@ -4,13 +4,14 @@ ghost use Rattle.state.specs.States.{State, initial};
 ghost use Rattle.witness.specs.declared.node.Node.{Node};
 ghost use Rattle.witness.specs.Judging.{AreLike, IsGoal};
 ghost use Rattle.witness.specs.Nodes.{left_at, Covers, IsTwin};
-ghost use Rattle.witness.specs.Searching.{IsNode, AreNodes, InSet, IsNodeAdded, IsNodeReached, IsFollowed, IsExpanded, IsFound, start_left, searched};
+ghost use Rattle.witness.specs.Searching.{IsNextNode, AreNodes, InSet, IsNodeAdded, IsNodeReached, IsFollowed, IsExpanded, IsFound, start_left, searched};
 
 use crate::goal::{Goal, is_like};
 use crate::judge::Judged;
-use crate::node::{Node, can_step, child, copied, is_twin};
+use crate::node::{Node, can_step, child, is_twin};
 use crate::passing::pass;
 use crate::places::{Places, key_of};
+use crate::schedules::schedule_to;
 use crate::table::is_used_up;
 use compile::CodeTable;
 use core_program::CoreProgram;
@@ -28,7 +29,7 @@ pub(crate) struct Search<'s> {
     pub(crate) most: u32,
 }
 
-/// Whether one of the nodes is the same as this one, which has this key, but for the schedules that led there.
+/// Whether one of the nodes is the same as this one, which has this key, but for the steps that led there.
 fn is_known(nodes: &[Node<'_>], places: &Places, key: u32, node: &Node<'_>) -> bool
     ensures { result ≡ true → (k : ℕ) × (n : Node) × (slice_get nodes.now k ≡ Some n) × IsTwin n node.now }
 {
@@ -54,7 +55,7 @@ fn add<'p>(
 ) -> Result<bool, NoMemory>
     requires most { vec_len nodes.old ≤ search.now.most }
     requires nodes { AreNodes search.now nodes.old.items }
-    requires node { IsNode search.now node }
+    requires node { IsNextNode search.now nodes.old.items node }
     ensures added { IfOk result (IsNodeAdded search.now nodes.old.items nodes.new.items node.entry) }
     ensures most { vec_len nodes.new ≤ search.now.most }
     ensures longer { vec_len nodes.old ≤ vec_len nodes.new }
@@ -85,7 +86,7 @@ fn add_passed<'p>(
 ) -> Result<bool, NoMemory>
     requires most { vec_len nodes.old ≤ search.now.most }
     requires nodes { AreNodes search.now nodes.old.items }
-    requires node { IsNode search.now node }
+    requires node { IsNextNode search.now nodes.old.items node }
     ensures added { IfOk result (IsNodeReached search.now nodes.old.items nodes.new.items node.entry) }
     ensures most { vec_len nodes.new ≤ search.now.most }
     ensures longer { vec_len nodes.old ≤ vec_len nodes.new }
@@ -115,7 +116,7 @@ fn follow<'p>(
     ensures longer { vec_len nodes.old ≤ vec_len nodes.new }
     ensures full { IfOk result (λ room. room ≡ false → vec_len nodes.new ≡ search.now.most) }
 {
-    match child(alloc, &nodes[place], search.counted, thread)? {
+    match child(alloc, &nodes[place], place, search.counted, thread)? {
         Some(node) => add_passed(alloc, search, nodes, places, node),
         None => Ok(true),
     }
@@ -174,7 +175,7 @@ pub(crate) fn explore<'p>(
     let mut place = 0;
     'places: while place < nodes.len() {
         if is_end(search, &nodes[place]) {
-            return Ok(Judged::Kept(copied(alloc, nodes[place].path.as_slice())?));
+            return Ok(Judged::Kept(schedule_to(alloc, nodes.as_slice(), place)?));
         }
         if !expand(alloc, search, nodes, places, place)? {
             return Ok(Judged::Undecided { seen: search.most });

@@ -15,10 +15,12 @@ returns-in_ok-behind-in-Some c =
       sym c.may_step.ensures ∙ c.if-not-may_step.false,
       record {
         machine = c.in-Some.machine;
-        behind = c.in_ok-behind-in-Some.ensures;
+        behind = c.in_ok-behind-in-Some.ensures.behind;
         runs = subst (λ o. IfSome o (λ m. m.program ≡ old.program)) c.in-Some.is made.program;
         coded = subst (λ o. IfSome o (λ m. m.code ≡ old.code)) c.in-Some.is made.code;
         made = subst (λ o. IfSome o (λ m. m.made ≡ old.made + 1)) c.in-Some.is made.made;
         steps = λ q stands. subst (HasStepped (program_run old) q c.args.thread) c.in-Some.is (made.step q stands);
       },
+      c.in_ok-behind-in-Some.ensures.from,
+      c.in_ok-behind-in-Some.ensures.steps,
     )

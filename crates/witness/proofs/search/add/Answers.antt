@@ -8,7 +8,7 @@ use Rattle.witness.proofs.search.add.Goals as goal
 
 pub returns-then-is_known-clause-added : goal.returns-then-is_known-clause-added
 returns-then-is_known-clause-added c =
-    known_added c.args.search.now c.args.nodes.now.items c.args.node true c.requires.nodes c.requires.node
+    known_added c.args.search.now c.args.nodes.now.items c.args.node true c.requires.nodes c.requires.node.node
     (subst (λ xs. (k : ℕ) × (n : Node) × (slice_get xs k ≡ Some n) × IsTwin n c.args.node) c.as_slice.ensures.value (c.is_known.ensures c.if-is_known.true))
 
 pub returns-then-len-search-clause-added : goal.returns-then-len-search-clause-added

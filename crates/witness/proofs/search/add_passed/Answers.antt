@@ -1,11 +1,14 @@
 -- What the search went on to was added.
 use Rattle.std.proofs.lemmas.Result.{IfOk-weaker}
 use Rattle.witness.specs.Searching.{IsNodeAdded, IsNodeReached}
-use Rattle.witness.proofs.SearchLemmas.{reached_added}
+use Rattle.witness.proofs.SearchLemmas.{reached_added, passed_next}
 use Rattle.witness.proofs.search.add_passed.Goals as goal
 
 pub add-requires-clause-node : goal.add-requires-clause-node
-add-requires-clause-node c = c.in_ok-pass.ensures.node
+add-requires-clause-node c = passed_next c.args.search.now c.args.nodes.now.items c.args.node c.pass.new.node c.requires.node c.in_ok-pass.ensures
+
+pub pass-requires : goal.pass-requires
+pass-requires c = c.requires.node.node
 
 pub returns-clause-added : goal.returns-clause-added
 returns-clause-added c =

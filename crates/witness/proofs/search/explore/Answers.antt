@@ -1,6 +1,6 @@
 -- The nodes one after the other.
-use Rattle.std.proofs.Common.{◌<◌, length, subst, ◌∙◌, arith}
-use Rattle.witness.specs.Searching.{IsExpanded}
+use Rattle.std.proofs.Common.{◌<◌, length, sym, subst, arith}
+use Rattle.witness.specs.Searching.{IsExpanded, IsScheduleTo}
 use Rattle.witness.proofs.SearchLemmas.{node_at, none_explored, explored_more, explored_all, no_end_at, kept_at}
 use Rattle.witness.proofs.search.explore.Goals as goal
 
@@ -13,14 +13,19 @@ expand-requires-clause-within c = omega (arith, c.places-test.true, c.len.ensure
 pub expand-requires-clause-nodes : goal.expand-requires-clause-nodes
 expand-requires-clause-nodes c = c.places.invariant.1.are
 
+pub schedule_to-requires : goal.schedule_to-requires
+schedule_to-requires c =
+    let nodes = c.places.nodes.items in
+    let within : c.places.place < length nodes = omega (arith, c.places-test.true, c.len.ensures, c.places.nodes.ok) in
+    let come = c.places.invariant.1.are.come c.places.place c.index.result.now (node_at nodes c.index.result.now c.places.place within c.index.ensures) in
+    (come.0, subst (λ xs. IsScheduleTo xs c.places.place come.0) (sym c.as_slice.ensures.value) come.1)
+
 pub returns-then-is_end : goal.returns-then-is_end
 returns-then-is_end c = λ q goal.
     let nodes = c.places.nodes.items in
     let within : c.places.place < length nodes = omega (arith, c.places-test.true, c.len.ensures, c.places.nodes.ok) in
-    let one = node_at nodes c.index.result.now c.places.place within c.index.ensures in
-    let other = node_at nodes c.index-then-is_end.result.now c.places.place within c.index-then-is_end.ensures in
-    kept_at c.args.search.now q nodes c.places.place c.index.result.now c.index-then-is_end.result.now c.is_end.result c.in_ok-copied.field-0 one other c.places.invariant.1.are
-    (c.in_ok-copied.ensures ∙ c.as_slice.ensures.value) goal c.if-is_end.true c.is_end.ensures.like c.is_end.ensures.used
+    kept_at c.args.search.now q nodes c.places.place c.index.result.now c.is_end.result c.in_ok-schedule_to.field-0 (node_at nodes c.index.result.now c.places.place within c.index.ensures) c.places.invariant.1.are
+    (λ xs leads. c.in_ok-schedule_to.ensures xs (subst (λ ys. IsScheduleTo ys c.places.place xs) (sym c.as_slice.ensures.value) leads)) goal c.if-is_end.true c.is_end.ensures.like c.is_end.ensures.used
 
 pub places-smaller : goal.places-smaller
 places-smaller c = omega (arith, c.places-test.true, c.len.ensures, c.places.invariant.0)

@@ -20,7 +20,7 @@ add_passed-requires-clause-node c =
     let n = c.index.result.now in
     let there = node_at nodes n c.args.place (omega (arith, c.requires.within, c.args.nodes.now.ok)) c.index.ensures in
     let s = c.args.search.now in
-    child_node s nodes n c.args.place c.args.thread there c.requires.nodes c.in-Some.node (subst (IsChild s.counted n c.args.thread) c.in-Some.is c.in_ok-node.ensures)
+    child_node s nodes n c.args.place c.args.thread there c.requires.nodes c.in-Some.node (subst (IsChild s.counted n c.args.place c.args.thread) c.in-Some.is c.in_ok-node.ensures)
 
 pub returns-in-Some-clause-followed : goal.returns-in-Some-clause-followed
 returns-in-Some-clause-followed c =
@@ -30,7 +30,7 @@ returns-in-Some-clause-followed c =
     let s = c.args.search.now in
     let new = c.add_passed.new.nodes.items in
     IfOk-weaker c.add_passed.result (IsNodeReached s nodes new c.in-Some.node) (IsFollowed s nodes new c.args.place c.args.thread)
-    (λ room added. child_followed s nodes n c.args.place c.args.thread there c.requires.nodes new c.in-Some.node room (subst (IsChild s.counted n c.args.thread) c.in-Some.is c.in_ok-node.ensures) added)
+    (λ room added. child_followed s nodes n c.args.place c.args.thread there c.requires.nodes new c.in-Some.node room (subst (IsChild s.counted n c.args.place c.args.thread) c.in-Some.is c.in_ok-node.ensures) added)
     c.add_passed.ensures.added
 
 pub returns-in-None-clause-followed : goal.returns-in-None-clause-followed
@@ -39,4 +39,4 @@ returns-in-None-clause-followed c =
     let n = c.index.result.now in
     let there = node_at nodes n c.args.place (omega (arith, c.requires.within, c.args.nodes.now.ok)) c.index.ensures in
     let s = c.args.search.now in
-    none_leads s nodes n c.args.place c.args.thread there c.requires.nodes (subst (IsChild s.counted n c.args.thread) c.in-None.is c.in_ok-node.ensures)
+    none_leads s nodes n c.args.place c.args.thread there c.requires.nodes (subst (IsChild s.counted n c.args.place c.args.thread) c.in-None.is c.in_ok-node.ensures)
