@@ -1,5 +1,5 @@
 //! What is told of a schedule as a whole: an order that keeps its promises, or the strongest sense in which they are broken.
-ghost use Rattle.std.specs.Prelude.{◌≡◌, ◌≢◌, ◌≤◌, ℕ, List, true, false, length, Some, IfOk, MatchResult};
+ghost use Rattle.std.specs.Prelude.{◌≡◌, ◌≢◌, ◌≤◌, ℕ, List, true, false, length, Some, IfOk, IfSome, MatchResult};
 ghost use Rattle.core_program.specs.Core.{Program};
 ghost use Rattle.state.specs.States.{State, initial};
 ghost use Rattle.machine.specs.declared.deed.StepEnd.TheVariants as ends;
@@ -16,6 +16,9 @@ use compile::CodeTable;
 use core_program::CoreProgram;
 use machine::{Machine, StepEnd, Stopped};
 use std::alloc::{AllocError, AllocError as NoMemory, Global};
+
+/// The most states that are seen at first, to find out whether there is an order.
+const FEW_STATES: u32 = 500;
 
 /// In which sense the promises in a schedule are broken: by which comparison of ends, and whether no schedule at all that
 /// interrupts no atomic call ends so, or only none with the same entries.
@@ -171,25 +174,38 @@ fn no_order(alloc: Global, case: &Case<'_>, machine: &Machine<'_>) -> Result<boo
     Ok(is_broken(&judged))
 }
 
-/// The strongest sense in which the promises of a schedule are found to be broken, where no order leaves the same.
-fn strongest(alloc: Global, case: &Case<'_>, machine: &Machine<'_>) -> Result<Sense, NoMemory>
+/// The stronger sense in which no schedule at all is found to end like this one; none where neither is found.
+fn full_sense(
+    alloc: Global,
+    case: &Case<'_>,
+    machine: &Machine<'_>,
+) -> Result<Option<Sense>, NoMemory>
+    requires case { IsCase case.now }
+    requires end { IsMachineEnd (program_of_case case.now) case.now.schedule.now machine.now }
+    ensures { IfOk result (λ found. IfSome found (IsBrokenIn (program_of_case case.now) case.now.schedule.now)) }
+{
+    if no_way(alloc, case, machine, Compared::Output)? {
+        return Ok(Some(Sense {
+            by: Compared::Output,
+            full: true,
+        }));
+    }
+    if no_way(alloc, case, machine, Compared::Objects)? {
+        return Ok(Some(Sense {
+            by: Compared::Objects,
+            full: true,
+        }));
+    }
+    Ok(None)
+}
+
+/// The stronger sense in which no order is found to end like a schedule, where none leaves the same.
+fn order_sense(alloc: Global, case: &Case<'_>, machine: &Machine<'_>) -> Result<Sense, NoMemory>
     requires case { IsCase case.now }
     requires end { IsMachineEnd (program_of_case case.now) case.now.schedule.now machine.now }
     requires broken { IsWitnessAs (program_of_case case.now) (AreLike comparisons.Objects) case.now.schedule.now }
     ensures { IfOk result (IsBrokenIn (program_of_case case.now) case.now.schedule.now) }
 {
-    if no_way(alloc, case, machine, Compared::Output)? {
-        return Ok(Sense {
-            by: Compared::Output,
-            full: true,
-        });
-    }
-    if no_way(alloc, case, machine, Compared::Objects)? {
-        return Ok(Sense {
-            by: Compared::Objects,
-            full: true,
-        });
-    }
     if no_order(alloc, case, machine)? {
         return Ok(Sense {
             by: Compared::Output,
@@ -200,6 +216,51 @@ fn strongest(alloc: Global, case: &Case<'_>, machine: &Machine<'_>) -> Result<Se
         by: Compared::Objects,
         full: false,
     })
+}
+
+/// The strongest sense in which the promises of a schedule are found to be broken, where no order leaves the same.
+fn strongest(alloc: Global, case: &Case<'_>, machine: &Machine<'_>) -> Result<Sense, NoMemory>
+    requires case { IsCase case.now }
+    requires end { IsMachineEnd (program_of_case case.now) case.now.schedule.now machine.now }
+    requires broken { IsWitnessAs (program_of_case case.now) (AreLike comparisons.Objects) case.now.schedule.now }
+    ensures { IfOk result (IsBrokenIn (program_of_case case.now) case.now.schedule.now) }
+{
+    if let Some(sense) = full_sense(alloc, case, machine)? {
+        return Ok(sense);
+    }
+    order_sense(alloc, case, machine)
+}
+
+/// What is told where few states don't decide whether there is an order. Where no schedule at all ends like this one there is
+/// none, and then the orders needn't be looked for once more.
+fn told_of_many(alloc: Global, case: &Case<'_>, machine: &Machine<'_>) -> Result<Verdict, NoMemory>
+    requires case { IsCase case.now }
+    requires end { IsMachineEnd (program_of_case case.now) case.now.schedule.now machine.now }
+    ensures { IfOk result (IsVerdict (program_of_case case.now) case.now.most case.now.schedule.now) }
+{
+    if let Some(sense) = full_sense(alloc, case, machine)? {
+        return Ok(Verdict::Broken(sense));
+    }
+    match judge_orders(
+        alloc,
+        case.program,
+        case.code,
+        case.schedule,
+        end_of(machine, Compared::Objects),
+        case.most,
+    )? {
+        Judged::Kept(order) => Ok(Verdict::Kept(order)),
+        Judged::Undecided { seen } => Ok(Verdict::Undecided { seen }),
+        Judged::Broken => Ok(Verdict::Broken(order_sense(alloc, case, machine)?)),
+    }
+}
+
+/// How many states are seen at first, where this many are seen at most.
+fn first_states(most: u32) -> u32
+    requires { 1 ≤ most }
+    ensures { 1 ≤ result }
+{
+    most.min(FEW_STATES)
 }
 
 /// What is told of the schedule at whose end this machine stands.
@@ -214,10 +275,10 @@ fn told(alloc: Global, case: &Case<'_>, machine: &Machine<'_>) -> Result<Verdict
         case.code,
         case.schedule,
         end_of(machine, Compared::Objects),
-        case.most,
+        first_states(case.most),
     )? {
         Judged::Kept(order) => Ok(Verdict::Kept(order)),
-        Judged::Undecided { seen } => Ok(Verdict::Undecided { seen }),
+        Judged::Undecided { .. } => told_of_many(alloc, case, machine),
         Judged::Broken => Ok(Verdict::Broken(strongest(alloc, case, machine)?)),
     }
 }
