@@ -11,6 +11,7 @@ pub mod Theorem
 pub mod GoalLemmas
 pub mod NodeLemmas
 pub mod PassedLemmas
+pub mod WalkedLemmas
 pub mod ScheduleLemmas
 pub mod SearchLemmas
 pub mod TableLemmas

@@ -35,6 +35,7 @@ pub record IsStart (program : CoreProgram) (code : CodeTable) (left : List ℕ) 
   pub stands : StandsFor n.machine (initial (program_of program))
   pub waits : n.busy ≡ None
   pub counts : n.left.items ≡ left
+  pub steps : n.steps.items ≡ []
 
 -- the node behind another one, with this machine after a step of a thread
 pub record IsBehind (n : Node) (m : MachineValue) (t : ℕ) (next : Node) : Type 0 where

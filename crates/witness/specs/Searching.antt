@@ -45,6 +45,11 @@ pub record WalksTo (s : Search) (r : List ℕ) (n : Node) : Type 0 where
   pub walks : (more : List ℕ) → walk (searched s) (initial (searched s)) None (r ++ more) ≡ walk (searched s) last n.busy more
   pub total : s.counted ≡ true → (t : ℕ) → entry_counts r t + left_at n t ≡ start_left s t
 
+-- the steps of a node walk to it from the start
+pub record IsWalked (s : Search) (n : Node) : Type 0 where
+  pub node : IsNode s n
+  pub comes : WalksTo s n.steps.items n
+
 -- The schedule to the node at a place. That to the first one is empty. That to another one is the schedule to the node from which it
 -- was reached, which stands before it, and then its steps.
 pub data IsScheduleTo (nodes : List Node) : ℕ → List ℕ → Type 0 where

@@ -39,7 +39,7 @@ pub(crate) struct Course<'p> {
 
 /// Whether others can see a step of this kind, or what it lets them do. Behind any other step nothing is gained by a
 /// switch, since it can change places with steps of others that come later.
-fn is_seen(kind: StepKind) -> bool {
+pub(crate) fn is_seen(kind: StepKind) -> bool {
     match kind {
         StepKind::Left | StepKind::Other | StepKind::Bare => true,
         StepKind::Both | StepKind::Right => false,

@@ -6,6 +6,7 @@ ghost use Rattle.compile.specs.IsCode.{IsCodeOf};
 ghost use Rattle.witness.specs.Judging.{AreLike, IsGoal, IsJudged, IsJudgedWhole};
 ghost use Rattle.witness.specs.Searching.{IsFound, searched};
 
+use crate::direct::direct_order;
 use crate::goal::Goal;
 use crate::node::start;
 use crate::places::{Places, key_of};
@@ -63,6 +64,9 @@ pub fn judge_orders(
         goal,
         most,
     };
+    if let Some(order) = direct_order(alloc, &search, schedule)? {
+        return Ok(Judged::Kept(order));
+    }
     begin(alloc, &search)
 }
 

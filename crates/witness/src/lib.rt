@@ -4,6 +4,7 @@
 #![tactic(auto)]
 
 mod courses;
+mod direct;
 mod ends;
 pub mod examples;
 mod goal;

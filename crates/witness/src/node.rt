@@ -56,7 +56,7 @@ pub(crate) fn start<'p>(
 }
 
 /// Whether a thread may step where this one has to go on, or none has to.
-fn may_step(busy: Option<u32>, thread: u32) -> bool
+pub(crate) fn may_step(busy: Option<u32>, thread: u32) -> bool
     ensures { result ≡ may_step busy thread }
 {
     match busy {

@@ -14,7 +14,7 @@ use std::alloc::{AllocError as NoMemory, Global};
 const MOST_PASSED: u32 = 1_000;
 
 /// Whether a thread has a step that nobody else sees, and entries are left for it.
-fn is_alone(search: &Search<'_>, node: &Node<'_>, thread: u32) -> bool
+pub(crate) fn is_alone(search: &Search<'_>, node: &Node<'_>, thread: u32) -> bool
     requires { IsNode search.now node.now }
     ensures allowed { result ≡ true → allows search.now.counted (left_at node.now) thread ≡ true }
     ensures alone { result ≡ true → IsAlone search.now node.now thread None }

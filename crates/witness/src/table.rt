@@ -6,7 +6,7 @@ ghost use Rattle.witness.specs.Tables.{count_at};
 use std::alloc::{AllocError as NoMemory, Global};
 
 /// The count of a thread.
-fn count_at(table: &[u32], thread: u32) -> u32
+pub(crate) fn count_at(table: &[u32], thread: u32) -> u32
     ensures { result ≡ count_at table.now thread }
 {
     match table.get(thread as usize) {
