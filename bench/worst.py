@@ -7,6 +7,7 @@ time of half the source it took. A run that takes more seconds than --seconds is
 overriding  classes in a line, each of which overrides the one method; it calls a method with eight relevant paths
 reverse     the same, where the last class stands first in the source
 rising      the same without the call; the last one alone is compound, and the others come to be so by it
+late        the same, where the last one calls that method; a method that calls the first one shows it
 empty       classes in a line, each of which overrides an empty method
 names       the same with three methods
 pairs       classes that inherit many methods, and override none
@@ -60,6 +61,12 @@ def rising(count: int) -> str:
     return MAIN + "".join(heirs(count, lambda k: "int u;" * (k == 0) + f"void f(){{{last * (k == count - 1)}}}"))
 
 
+def late(count: int) -> str:
+    line = heirs(count, lambda k: f"void f(final X x){{{'x.g();' * (k == count - 1)}}}")
+    last = "class Last{atomic void last(final X x,final c0 y){y.f(x);y.f(x);}}\n"
+    return MAIN + locked() + "".join(line) + last
+
+
 def empty(count: int) -> str:
     return MAIN + "".join(heirs(count, lambda k: "void f(){}"))
 
@@ -82,6 +89,7 @@ FAMILIES: dict[str, Family] = {
     "overriding": overriding,
     "reverse": reverse,
     "rising": rising,
+    "late": late,
     "empty": empty,
     "names": names,
     "pairs": pairs,
@@ -160,7 +168,8 @@ def judging(program: str, maker: str, judge: str, source: str, seconds: int) -> 
 
 def case(program: str, command: str, folder: str, text: str, seconds: int) -> Optional[Case]:
     """A command with this source and what belongs to it."""
-    source = put(folder, "source", (text + LAST * ("blame" in command)).encode())
+    shown = LAST * ("blame" in command and "class Last" not in text)
+    source = put(folder, "source", (text + shown).encode())
     if command == "levels":
         levels = levels_of(text).encode()
         return Case([program, command, source, put(folder, command, levels)], len(levels))
