@@ -9,12 +9,15 @@ import atomic.java.skeleton.Part;
 import atomic.java.skeleton.Place;
 import atomic.java.skeleton.Shape;
 import java.util.ArrayList;
+import java.util.Collections;
 import java.util.HashMap;
 import java.util.HashSet;
+import java.util.IdentityHashMap;
 import java.util.List;
 import java.util.Map;
 import java.util.Set;
-import java.util.stream.Stream;
+import java.util.regex.Pattern;
+import java.util.stream.Collectors;
 
 /**
  * What a method does, one event behind the other, with what the methods do that it calls. A loop is two turns, and
@@ -25,12 +28,7 @@ final class Course {
     private static final int MOST_EVENTS = 160;
     private static final int MOST_PARTS = 20_000;
     private static final int DEEPEST = 8;
-
-    /**
-     * A question that a region of the method itself asks: behind the look at a thing a branch follows before the lock is
-     * given back. What a method asks that others may call as well is its own question, and not this one again.
-     */
-    private record Asked(int region, Object thing) { }
+    private static final Pattern LOCKS = Pattern.compile("=\\w*Lock\\.(un)?lock\\w*");
 
     private final Callees callees;
     private final Map<Place, Touch> touches;
@@ -38,8 +36,17 @@ final class Course {
     private final Shape library;
     private final Set<Method> others;
     private final List<Event> events = new ArrayList<>();
+    private final Map<Event, Boolean> looks = new IdentityHashMap<>();
     private final Set<Hold> taken = new HashSet<>();
-    private final Set<Asked> asked = new HashSet<>();
+    /**
+     * The questions that a region of the method itself asks, by its number: behind the look at a thing a branch follows before
+     * the lock is given back. What a method asks that others may call as well is its own question, and not this one again.
+     */
+    private final Map<Integer, Set<Object>> asked = new HashMap<>();
+    private final Map<Integer, Integer> askedUpTo = new HashMap<>();
+    private final Map<Integer, Integer> again = new HashMap<>();
+    private final Map<Object, List<Event>> byThing = new HashMap<>();
+    private final Set<Object> compared = new HashSet<>();
     private final List<Hold> held = new ArrayList<>();
     private final Set<Hold> own = new HashSet<>();
     private final Map<Integer, Integer> branches = new HashMap<>();
@@ -76,26 +83,46 @@ final class Course {
         return taken;
     }
 
-    /**
-     * Whether a region that the second event stands in, and the first one doesn't, asks again what the first one looked at, or
-     * what was looked at together with it under one lock; behind a look-up, whether it asks anything.
-     */
-    boolean asksAgain(Event first, Event second) {
-        int common = first.around(second).size();
-        List<Hold> later = second.held().subList(common, second.held().size());
-        return asked.stream().anyMatch(each -> later.stream().anyMatch(hold -> hold.number() == each.region())
-            && (first.finds() || each.thing().equals(first.thing()) || together(first, common).anyMatch(other ->
-                !other.writes() && other.thing().equals(each.thing()))));
+    /** The events of one thing. */
+    List<Event> events(Object thing) {
+        return byThing.getOrDefault(thing, List.of());
     }
 
-    /** What stands in the same regions as an event, of those that are not among the outer ones. */
-    private Stream<Event> together(Event event, int outer) {
-        return event.held().size() <= outer ? Stream.empty()
-            : events.stream().filter(each -> each.around(event).size() > outer);
+    /**
+     * The first event behind this one that stands in a region in which this one doesn't stand, and which asks again what this
+     * one looked at, or what was looked at together with it under one lock; behind a look-up, whether it asks anything.
+     */
+    int askedAgain(int first) {
+        return again.computeIfAbsent(first, key -> {
+            Map<Integer, Set<Object>> beside = new HashMap<>();
+            int next = first + 1;
+            while (next < events.size() && !asksAgain(events.get(first), events.get(next), beside)) {
+                next++;
+            }
+            return next;
+        });
+    }
+
+    private boolean asksAgain(Event first, Event second, Map<Integer, Set<Object>> beside) {
+        int common = first.around(second).size();
+        return second.held().subList(common, second.held().size()).stream()
+            .map(hold -> asked.getOrDefault(hold.number(), Set.of())).anyMatch(things -> !things.isEmpty()
+                && (first.finds() || things.contains(first.thing()) || !Collections.disjoint(things,
+                    beside.computeIfAbsent(common, outer -> together(first, outer)))));
+    }
+
+    /** What is looked at in the same regions as an event, of those that are not among the outer ones. */
+    private Set<Object> together(Event event, int outer) {
+        return event.held().size() <= outer ? Set.of() : events.stream().filter(each -> !each.writes()
+            && each.around(event).size() > outer).map(Event::thing).collect(Collectors.toSet());
     }
 
     /** Whether an event is a look, and more than the first half of {@code n++}. */
     boolean looks(Event event) {
+        return looks.computeIfAbsent(event, this::isLook);
+    }
+
+    private boolean isLook(Event event) {
         int next = events.indexOf(event) + 1;
         Event after = next < events.size() ? events.get(next) : event;
         return !event.writes() && !(after.writes() && after.isSame(event) && after.branches().equals(event.branches()));
@@ -103,7 +130,7 @@ final class Course {
 
     /** Whether some change of a thing is made only if nobody came in between. */
     boolean compares(Object thing) {
-        return events.stream().anyMatch(each -> each.compares() && each.thing().equals(thing));
+        return compared.contains(thing);
     }
 
     private void part(Part part, int depth) {
@@ -140,12 +167,17 @@ final class Course {
     }
 
     private void event(Object thing, Touch touch) {
-        events.add(new Event(thing, touch.kind(), touch.asked(), List.copyOf(held), Map.copyOf(branches)));
+        Event made = new Event(thing, touch.kind(), touch.asked(), List.copyOf(held), Map.copyOf(branches));
+        events.add(made);
+        byThing.computeIfAbsent(thing, key -> new ArrayList<>()).add(made);
+        if (made.compares()) {
+            compared.add(thing);
+        }
     }
 
     private void call(Part.Call call, int depth) {
         if (call.target().owner() == library) {
-            dark |= program.names().shown(call.target().name()).matches("=\\w*Lock\\.(un)?lock\\w*");
+            dark = dark || LOCKS.matcher(program.names().shown(call.target().name())).matches();
             Touch touch = touches.get(call.place());
             if (touch != null) {
                 // What is several steps is two events.
@@ -164,13 +196,20 @@ final class Course {
         }
     }
 
+    /** A branch follows behind what was looked at in a region. */
+    private void ask(Hold hold) {
+        int begun = askedUpTo.getOrDefault(hold.number(), 0);
+        events.subList(begun, events.size()).stream().filter(each -> !each.writes() && each.held().contains(hold))
+            .forEach(each -> asked.computeIfAbsent(hold.number(), key -> new HashSet<>()).add(each.thing()));
+        askedUpTo.put(hold.number(), events.size());
+    }
+
     private static List<Part> steps(Part body) {
         return body instanceof Part.Sequence ? body.parts() : List.of(body);
     }
 
     private void branch(List<Part> sides, int depth) {
-        own.forEach(hold -> events.stream().filter(each -> !each.writes() && each.held().contains(hold))
-            .forEach(each -> asked.add(new Asked(hold.number(), each.thing()))));
+        own.forEach(this::ask);
         int number = numbers++;
         for (int side = 0; side < sides.size(); side++) {
             branches.put(number, side);

@@ -34,13 +34,30 @@ public final class Interruptions {
     /** How often another method is held against a pair of events, at most: behind that no reason is seen. */
     private static final int MOST_LOOKS = 100_000;
     private static final int MOST_LOOKS_OF_ONE = 5_000;
+    private static final int MOST_PAIRS = 50_000;
 
     private final Program program;
     private final Callees callees;
     private final Set<Method> others;
     private final Map<Method, Course> courses = new HashMap<>();
     private final Map<Object, Set<Method>> byThing = new HashMap<>();
+    private final Map<Pair, List<Method>> byBoth = new HashMap<>();
+    private final Map<Question, Boolean> told = new HashMap<>();
     private int looks;
+
+    /** Two things that a method touches. */
+    private record Pair(Object one, Object two) { }
+
+    /** What is asked of another method for two events: whether it has a conflict with both. Many pairs ask the same. */
+    private record Question(Course course, Pair things, boolean changesOne, boolean changesTwo, boolean found, boolean apart,
+            boolean publishes) {
+
+        static Question of(Course course, Event one, Event two) {
+            return new Question(course, new Pair(one.thing(), two.thing()), one.writes(), two.writes(),
+                one.finds() && !one.isSame(two), one.finds() && two.finds() && !one.asked().equals(two.asked()),
+                one.isPlain() && !two.isPlain() && one.writes());
+        }
+    }
 
     /** The methods of a program; {@code others} are those that other threads may call. */
     public Interruptions(Program program, Collection<Method> others) {
@@ -61,8 +78,7 @@ public final class Interruptions {
             for (int first = 0; first < second && looks < most; first++) {
                 Event one = events.get(first);
                 Event two = events.get(second);
-                Set<Method> touching = one.meets(two) ? touching(one, two) : Set.of();
-                Method found = !touching.isEmpty() && counts(course, first, second) ? between(one, two, touching) : null;
+                Method found = one.meets(two) && counts(course, first, second) ? between(one, two) : null;
                 if (found != null) {
                     return found;
                 }
@@ -81,28 +97,31 @@ public final class Interruptions {
         Event two = course.events().get(second);
         boolean tried = one.isSame(two) && course.compares(one.thing()) && (one.compares() || !one.writes());
         boolean half = !one.writes() && !course.looks(one) && second != first + 1;
-        return !tried && !half && (one.writes() || course.events().subList(first + 1, second + 1).stream().noneMatch(each ->
-            course.asksAgain(one, each)));
+        return !tried && !half && (one.writes() || course.askedAgain(first) > second);
     }
 
     /** The other methods that touch both. */
-    private Set<Method> touching(Event one, Event two) {
+    private List<Method> touching(Event one, Event two) {
         if (byThing.isEmpty()) {
             others.forEach(other -> course(other).events().forEach(each ->
                 byThing.computeIfAbsent(each.thing(), key -> new LinkedHashSet<>()).add(other)));
         }
-        Set<Method> both = new LinkedHashSet<>(byThing.getOrDefault(one.thing(), Set.of()));
-        both.retainAll(byThing.getOrDefault(two.thing(), Set.of()));
-        return both;
+        if (byBoth.size() > MOST_PAIRS) {
+            byBoth.clear();
+        }
+        return byBoth.computeIfAbsent(new Pair(one.thing(), two.thing()), key -> {
+            Set<Method> both = byThing.getOrDefault(key.two(), Set.of());
+            return byThing.getOrDefault(key.one(), Set.of()).stream().filter(both::contains).toList();
+        });
     }
 
-    private Method between(Event one, Event two, Set<Method> touching) {
+    private Method between(Event one, Event two) {
         List<Event.Hold> around = one.around(two);
-        for (Method other : touching) {
+        for (Method other : touching(one, two)) {
             looks++;
             Course course = course(other);
             boolean kept = around.stream().anyMatch(each -> course.taken().stream().anyMatch(each::keepsOut));
-            if (!kept && !course.isDark() && tells(course, one, two)) {
+            if (!kept && !course.isDark() && told.computeIfAbsent(Question.of(course, one, two), Interruptions::tells)) {
                 return other;
             }
         }
@@ -110,25 +129,19 @@ public final class Interruptions {
     }
 
     /** Whether a method that does these events has a conflict with both. */
-    private static boolean tells(Course course, Event one, Event two) {
-        List<Event> events = course.events();
-        boolean found = one.finds() && !one.isSame(two);
-        boolean apart = one.finds() && two.finds() && !one.asked().equals(two.asked());
-        List<Event> firsts = events.stream().filter(each -> conflict(each, one)
-            && !(found && each.kind() == Touch.Kind.ADD) && !(one.writes() && !course.looks(each))).toList();
-        List<Event> seconds = firsts.isEmpty() ? List.of() : events.stream()
-            .filter(each -> conflict(each, two) && !(one.writes() && two.writes() && !course.looks(each))).toList();
-        return firsts.stream().anyMatch(each -> seconds.stream().anyMatch(other ->
-            each.meets(other) && !(apart && each == other) && !published(each, other, one, two)));
+    private static boolean tells(Question asked) {
+        Course course = asked.course();
+        List<Event> firsts = course.events(asked.things().one()).stream().filter(each -> (asked.changesOne() || each.writes())
+            && !(asked.found() && each.kind() == Touch.Kind.ADD) && !(asked.changesOne() && !course.looks(each))).toList();
+        List<Event> seconds = firsts.isEmpty() ? List.of() : course.events(asked.things().two()).stream()
+            .filter(each -> (asked.changesTwo() || each.writes())
+                && !(asked.changesOne() && asked.changesTwo() && !course.looks(each))).toList();
+        return firsts.stream().anyMatch(each -> seconds.stream().anyMatch(other -> each.meets(other)
+            && !(asked.apart() && each == other) && !(asked.publishes() && isPublished(each, other))));
     }
 
-    /** Whether plain data is changed before what publishes it, and only looked at where that tells of it. */
-    private static boolean published(Event data, Event flag, Event one, Event two) {
-        return one.isPlain() && !two.isPlain() && one.writes() && !data.writes() && !flag.writes()
-            && data.isBehindTestOf(flag);
-    }
-
-    private static boolean conflict(Event one, Event two) {
-        return one.isSame(two) && (one.writes() || two.writes());
+    /** Whether data is only looked at where what publishes it tells of it. */
+    private static boolean isPublished(Event data, Event flag) {
+        return !data.writes() && !flag.writes() && data.isBehindTestOf(flag);
     }
 }
