@@ -46,6 +46,7 @@ final class Judging {
     private final List<Text> texts = new ArrayList<>();
     private final Map<String, String> found = new HashMap<>();
     private final Pieces pieces;
+    private Method pastLimit;
     private int repairs;
     private int status;
 
@@ -75,6 +76,9 @@ final class Judging {
         }
 
         void write() {
+            if (pastLimit != null && wanted.stream().anyMatch(reduced::contains)) {
+                wanted.add(pastLimit);
+            }
             writer = pieces.writer();
             text = writer.write(program.shapes(), wanted);
             repaired = repairs;
@@ -205,7 +209,7 @@ final class Judging {
             throw new Refusal(Options.NO_CHECKER, "atomic_why can't read the skeleton: " + String.join("; ", told.lines())
                 + (parts.matches() ? ": " + writer.line(Integer.parseInt(parts.group(1))) : ""));
         }
-        reduce(method, kind, wanted);
+        reduce(method, kind);
     }
 
     private Method largest(Set<Method> wanted) {
@@ -217,13 +221,13 @@ final class Judging {
     private boolean cut(Set<Method> wanted) {
         Method method = largest(wanted);
         if (method != null && reduced.add(method)) {
-            reduce(method, "too large", new LinkedHashSet<>());
+            reduce(method, "too large");
             return true;
         }
         return false;
     }
 
-    private void reduce(Method method, String kind, Set<Method> wanted) {
+    private void reduce(Method method, String kind) {
         repairs++;
         if (method.place() != null) {
             program.notes().tell(Notes.Kind.APPROXIMATED, methods.origin(method), method.place(), "limit: the checker says "
@@ -241,11 +245,11 @@ final class Judging {
             return;
         }
         Part.Call unknown = methods.several("what is past a limit of the checker", method.place());
-        if (!program.helpers().methods().contains(unknown.target())) {
-            program.helpers().methods().add(unknown.target());
+        pastLimit = unknown.target();
+        if (!program.helpers().methods().contains(pastLimit)) {
+            program.helpers().methods().add(pastLimit);
         }
-        wanted.add(unknown.target());
-        Marking.run(List.of(unknown.target()));
+        Marking.run(List.of(pastLimit));
         method.loose().clear();
         method.body(unknown);
         pieces.forget(method);

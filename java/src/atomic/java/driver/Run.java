@@ -13,6 +13,7 @@ import atomic.java.passes.Marking;
 import atomic.java.passes.Pruning;
 import atomic.java.passes.Races;
 import atomic.java.passes.ReadLocks;
+import atomic.java.passes.Scopes;
 import atomic.java.passes.Unwritten;
 import atomic.java.passes.Waiting;
 import atomic.java.places.Text;
@@ -126,6 +127,7 @@ public final class Run {
     /** Takes waits, locks of readers and what has no step out of the skeleton, and finds guards where that is asked. */
     private void refine(Program program, Methods methods) {
         List<Method> all = all(program);
+        Scopes.run(all);
         if (program.sure()) {
             new Doubts(all).run();
         }
@@ -143,7 +145,7 @@ public final class Run {
         new Races(program.names(), program.notes()).run(kept);
         Marking.run(kept);
         new ClosedWorld(program).run();
-        new Limits(program.names()).run(kept, program.shapes());
+        new Limits(program, kept).run();
     }
 
     private static List<Method> all(Program program) {

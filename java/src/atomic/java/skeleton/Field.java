@@ -41,7 +41,7 @@ public final class Field {
     }
 
     public Shape type() {
-        return type;
+        return one == null ? type : one.type();
     }
 
     public boolean fixed() {
@@ -49,11 +49,15 @@ public final class Field {
     }
 
     public Guard guard() {
-        return guard;
+        return one == null ? guard : one.guard();
     }
 
     public void guard(Guard lock) {
-        guard = lock;
+        if (one == null) {
+            guard = lock;
+        } else {
+            one.guard(lock);
+        }
     }
 
     /** Where the Java field is declared. */
@@ -77,6 +81,11 @@ public final class Field {
 
     public void use() {
         used = true;
+    }
+
+    /** No part of the skeleton names it any more. */
+    public void forget() {
+        used = false;
     }
 
     /** Whether a guard may be inferred: not for a volatile field, which says that it is read without one. */

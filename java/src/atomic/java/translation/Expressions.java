@@ -25,6 +25,7 @@ import com.sun.source.tree.Tree;
 import com.sun.source.tree.TypeCastTree;
 import com.sun.source.tree.UnaryTree;
 import com.sun.source.util.SimpleTreeVisitor;
+import java.util.List;
 import javax.lang.model.element.Element;
 import javax.lang.model.element.ElementKind;
 import javax.lang.model.element.VariableElement;
@@ -131,8 +132,7 @@ final class Expressions extends SimpleTreeVisitor<Value, Void> {
     public Value visitBinary(BinaryTree tree, Void nothing) {
         value(tree.getLeftOperand());
         switch (tree.getKind()) {
-            case CONDITIONAL_AND, CONDITIONAL_OR -> body.emit(
-                new Part.Either(body.collect(() -> value(tree.getRightOperand())), Part.NOTHING));
+            case CONDITIONAL_AND, CONDITIONAL_OR -> perhaps(body.collect(() -> value(tree.getRightOperand())));
             default -> value(tree.getRightOperand());
         }
         if (tree.getKind() == Tree.Kind.PLUS) {
@@ -140,6 +140,14 @@ final class Expressions extends SimpleTreeVisitor<Value, Void> {
             new LibraryCalls(services, body).joined(tree.getRightOperand(), tree);
         }
         return Value.OPAQUE;
+    }
+
+    /** A part that is done or not. What its patterns name is named outside of it, since what follows may speak of that. */
+    private void perhaps(Part part) {
+        List<Part> all = part instanceof Part.Sequence ? part.parts() : List.of(part);
+        all.stream().filter(Part.Local.class::isInstance).forEach(body::emit);
+        Part rest = Part.sequence(all.stream().filter(each -> !(each instanceof Part.Local)).toList());
+        body.emit(new Part.Either(rest, Part.NOTHING));
     }
 
     @Override
