@@ -38,6 +38,7 @@ public final class LocalFunctions {
     private final Uses uses;
     private final Escape escape;
     private final Map<Element, Optional<ExpressionTree>> known = new HashMap<>();
+    private final Map<VariableElement, Boolean> onlyCalled = new HashMap<>();
     private final Set<Tree> asked = new HashSet<>();
 
     LocalFunctions(Program program, Uses uses, Escape escape) {
@@ -65,11 +66,17 @@ public final class LocalFunctions {
             && known.computeIfAbsent(local, key -> Optional.ofNullable(find(local))).orElse(null) == function;
     }
 
-    /** Whether a method does nothing with the function in a parameter but to call it. */
+    /** Whether a method does nothing with the function in a parameter but to call it; not where it may get that back itself. */
     public boolean isOnlyCalled(VariableElement parameter) {
+        Boolean found = onlyCalled.putIfAbsent(parameter, false);
+        if (found != null) {
+            return found;
+        }
         VariableTree declaration = uses.declaration(parameter);
-        return declaration != null && uses.isSettled(parameter) && isPlain(parameter)
+        boolean only = declaration != null && uses.isSettled(parameter) && isPlain(parameter)
             && uses.of(parameter).stream().allMatch(use -> isCall(use) && isWithin(use, declaration));
+        onlyCalled.put(parameter, only);
+        return only;
     }
 
     private ExpressionTree find(VariableElement local) {

@@ -36,6 +36,7 @@ final class Body {
     private Value element = Value.OPAQUE;
     private List<Part> sink = new ArrayList<>();
     private int depth;
+    private int size;
     private JavaClass starting;
     private boolean locksSomehow;
     private final List<Path> monitors = new ArrayList<>();
@@ -136,7 +137,13 @@ final class Body {
     void emit(Part part) {
         if (!part.isNothing()) {
             sink.add(part);
+            size++;
         }
+    }
+
+    /** How many parts were written so far. */
+    int size() {
+        return size;
     }
 
     /** What {@code work} emits, as one part. */

@@ -62,7 +62,7 @@ final class Calls {
             ? services.functions().named(select.getExpression()) : null;
         if (function != null) {
             tree.getArguments().forEach(expressions::value);
-            services.functions().inline(function, body);
+            services.functions().run(function, body, tree);
         }
         return function != null;
     }

@@ -36,11 +36,28 @@ final class Functions {
     /** How often a helper's body is written within itself. */
     private static final int DEEPEST = 3;
 
+    /** How many bodies of helpers and functions are written for one call, since each may call others more than once. */
+    private static final int MOST_BODIES = 500;
+
+    /** How many parts a method has at most that still gets such a body; with more it fits into no text. */
+    private static final int MOST_PARTS = 10_000;
+
+    /** All that a function that is judged by itself depends on: its code, whose object it belongs to, and of what it is told. */
+    private record Apart(Tree function, JavaClass self, Shape me, boolean node, Object origin) {
+
+        static Apart of(Tree function, Body around, Value me) {
+            return new Apart(function, around.self(), me == null ? null : me.type(), me instanceof Value.Node, around.origin());
+        }
+    }
+
     private final Services services;
     private final Map<JavaClass, List<Method>> implementations = new HashMap<>();
     private final Map<VariableElement, ExpressionTree> given = new HashMap<>();
     private final List<JavaMethod> helpers = new ArrayList<>();
+    private int bodies;
+    private int open;
     private final Set<Tree> begun = new HashSet<>();
+    private final Set<Apart> apart = new HashSet<>();
 
     Functions(Services services) {
         this.services = services;
@@ -76,7 +93,7 @@ final class Functions {
         services.methods().helper(helper.place());
         given.putAll(functions);
         try {
-            work.run();
+            count(work);
         } finally {
             given.clear();
             given.putAll(before);
@@ -84,12 +101,27 @@ final class Functions {
         }
     }
 
+    /** Writes a body within those that are open. */
+    private void count(Runnable work) {
+        bodies = open == 0 ? 1 : bodies + 1;
+        open++;
+        try {
+            work.run();
+        } finally {
+            open--;
+        }
+    }
+
+    private boolean hasRoom(Body body) {
+        return body.size() < MOST_PARTS && (open == 0 || bodies < MOST_BODIES);
+    }
+
     /**
      * Whether a helper's body may be written: within itself a few times, as a function that it is given may call it, but then
      * none of the functions at hand stands in it, since what that one names belongs to the call around.
      */
-    boolean mayBegin(JavaMethod helper, Collection<ExpressionTree> functions) {
-        return helpers.stream().filter(each -> each == helper).count() < DEEPEST
+    boolean mayBegin(JavaMethod helper, Collection<ExpressionTree> functions, Body body) {
+        return hasRoom(body) && helpers.stream().filter(each -> each == helper).count() < DEEPEST
             && Stream.concat(given.values().stream(), functions.stream()).noneMatch(each -> standsIn(each, helper));
     }
 
@@ -123,8 +155,18 @@ final class Functions {
         }.scan(function, null);
     }
 
-    /** Writes a function that is at hand where it is called. */
-    void inline(ExpressionTree function, Body body) {
+    /** Writes a function that is at hand where it is called; past the limits nothing is known of it there. */
+    void run(ExpressionTree function, Body body, Tree call) {
+        if (hasRoom(body)) {
+            count(() -> inline(function, body));
+        } else {
+            alone(function, body);
+            body.emit(services.doubt(Method.Doubt.ANY, "a function that isn't known", true, body, call,
+                "limit: a call writes the bodies of at most " + MOST_BODIES + " functions, so this one may do anything"));
+        }
+    }
+
+    private void inline(ExpressionTree function, Body body) {
         if (function instanceof LambdaExpressionTree lambda) {
             inline(lambda, body);
         } else if (function instanceof MemberReferenceTree reference) {
@@ -141,12 +183,19 @@ final class Functions {
     }
 
     private void alone(ExpressionTree function, Body around) {
+        boolean outermost = begun.isEmpty();
         if (begun.add(function)) {
-            Method method = method(function, around);
-            Body body = body(function, method, around);
+            Value me = around.me(services.attribution().start(function)) == null ? null : around.me(Long.MAX_VALUE);
+            boolean first = apart.add(Apart.of(function, around, me));
+            Method method = first ? method(function, around) : null;
+            Body body = first ? body(function, method, around) : null;
             mentioned(function, around);
-            services.methods().later(() -> method.body(body.collect(() -> inline(function, body))));
-            begun.remove(function);
+            if (first) {
+                services.methods().later(() -> method.body(body.collect(() -> inline(function, body))));
+            }
+        }
+        if (outermost) {
+            begun.clear();
         }
     }
 

@@ -35,7 +35,7 @@ final class Helpers {
     /** Writes a call of a helper, where it is such a one; whether it was written. */
     boolean write(MethodInvocationTree tree, JavaMethod method) {
         Map<VariableElement, ExpressionTree> functions = functions(tree.getArguments(), method);
-        if (functions.isEmpty() || !isHelper(tree, method) || !services.functions().mayBegin(method, functions.values())) {
+        if (functions.isEmpty() || !isHelper(tree, method) || !services.functions().mayBegin(method, functions.values(), body)) {
             return false;
         }
         Map<VariableElement, Value> values = new LinkedHashMap<>();

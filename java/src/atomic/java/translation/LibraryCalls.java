@@ -61,7 +61,7 @@ final class LibraryCalls {
         ExpressionTree function = before == null ? null : services.functions().named(before);
         if (function != null) {
             tree.getArguments().forEach(expressions::value);
-            services.functions().inline(function, body);
+            services.functions().run(function, body, tree);
             return Value.OPAQUE;
         }
         services.functions().compare(services.ownership().comparators().named(before), body, tree);
