@@ -10,6 +10,7 @@ mutants      these, each time without one lock, guard or @Holding: each is told,
 reasons      each reason for which an error is told as certain, and what looks like it and is none (java/tests/reasons)
 summaries    sources whose first line has the line of figures that comes (java/tests/summaries)
 pieces       a source whose skeleton is too long for one text
+own          the sources of atomic-java itself: some 15 texts, and no method past a limit
 
 The exit status is 0 where all hold. Without a name all are tried.
 """
@@ -149,6 +150,14 @@ class Tester:
             found = f"{len(told)} told, {len(cut)} methods cut: {(told + cut)[:3]}"
             self.tell(f"{path.name}: {len(wanted)} errors wanted, {found}")
 
+    def own(self) -> None:
+        """What the tool says of its own sources counts no method as compound for a limit of the checker."""
+        answer = self.judged(["--public", "--infer"], [TOP / "java" / "src" / "atomic"])
+        self.count += 1
+        for line in answer.lines:
+            if "limit:" in line.text:
+                self.tell(f"{line.file}:{line.line}: {line.text}")
+
     def is_new(self, path: Path, line: Line) -> bool:
         """Whether a line is a data race that the source itself hasn't."""
         return RACE in line.text and (path.name, line.line, line.text) not in self.races
@@ -188,7 +197,7 @@ class Tester:
 
 def main() -> None:
     """Tries the tests that are named."""
-    names = ["adversaries", "users", "reasons", "larger", "summaries", "pieces", "mutants"]
+    names = ["adversaries", "users", "reasons", "larger", "summaries", "pieces", "own", "mutants"]
     parser = argparse.ArgumentParser(description=__doc__, formatter_class=argparse.RawDescriptionHelpFormatter)
     parser.add_argument("tests", nargs="*", metavar="TEST", help=f"what is tried: {', '.join(names)}")
     parser.add_argument("--program", type=Path, default=PROGRAM, help="the launcher (default: java/out/atomic-java)")
