@@ -26,9 +26,6 @@ public final class Checker implements AutoCloseable {
     /** What the program wrote, and its status. */
     public record Answer(int status, List<String> lines) { }
 
-    /** The explanations of what is refused, and what each part of each method is, where that was asked. */
-    public record Answers(Answer explained, Answer listed) { }
-
     /** The most bytes that it reads. */
     public static final int MOST_BYTES = 262_144;
 
@@ -56,11 +53,6 @@ public final class Checker implements AutoCloseable {
         /** Waits for what each part is, and asks for it where nobody has. */
         public Answer listed() {
             return wait(listed != null ? listed : runs.submit(() -> answer(file, "--all")));
-        }
-
-        /** Waits for all that was asked. */
-        public Answers answers() {
-            return new Answers(wait(explained), listed == null ? new Answer(0, List.of()) : wait(listed));
         }
 
         private Answer wait(Future<Answer> answer) {

@@ -34,7 +34,7 @@ final class Judging {
     private static final Pattern LISTED = Pattern.compile("(\\d+:\\d+): (\\w+): (\\S+) 0");
     private static final Pattern REFUSED = Pattern.compile("(\\d+):(\\d+): error: (.*)");
     private static final String COUNTED = " [more-errors]";
-    private static final int MOST_REPAIRS = 500;
+    private static final int MOST_REPAIRS = 2_000;
 
     private final Program program;
     private final Methods methods;
@@ -82,7 +82,8 @@ final class Judging {
             writer = pieces.writer();
             text = writer.write(program.shapes(), wanted);
             repaired = repairs;
-            question = checker.ask(text.bytes(), listed);
+            // What is refused once may be refused again: only what is accepted is listed then.
+            question = checker.ask(text.bytes(), listed && question == null);
         }
     }
 
@@ -146,10 +147,9 @@ final class Judging {
 
     private void judge(Piece piece) {
         for (int k = 0; k < MOST_REPAIRS; k++) {
-            Checker.Answers answers = piece.question.answers();
-            Checker.Answer told = answers.explained();
+            Checker.Answer told = piece.question.explained();
             if (told.status() != Options.NOT_JAVA && told.status() != Options.TOO_LARGE) {
-                accept(piece, answers);
+                accept(piece, told, piece.listed ? piece.question.listed() : new Checker.Answer(0, List.of()));
                 return;
             }
             if (piece.repaired == repairs) {
@@ -160,15 +160,15 @@ final class Judging {
         throw new Refusal(Options.TOO_LARGE, "the sources break too many limits of the checker");
     }
 
-    private void accept(Piece piece, Checker.Answers told) {
-        status = Math.max(status, told.explained().status());
+    private void accept(Piece piece, Checker.Answer told, Checker.Answer listed) {
+        status = Math.max(status, told.status());
         texts.add(piece.text);
-        List<String> all = new ArrayList<>(told.explained().lines());
+        List<String> all = new ArrayList<>(told.lines());
         if (all.removeIf(each -> each.endsWith(COUNTED))) {
             all.addAll(counted(piece, all));
         }
         lines.addAll(new Answer(piece.text, program.names()).lines(all));
-        for (String line : told.listed().lines()) {
+        for (String line : listed.lines()) {
             Matcher parts = line.endsWith(" 0") ? LISTED.matcher(line) : null;
             if (parts != null && parts.matches()) {
                 found.put(parts.group(3), parts.group(2));
