@@ -170,7 +170,7 @@ final class Course {
         Event made = new Event(thing, touch.kind(), touch.asked(), List.copyOf(held), Map.copyOf(branches));
         events.add(made);
         byThing.computeIfAbsent(thing, key -> new ArrayList<>()).add(made);
-        if (made.compares()) {
+        if (made.compares() || made.kind() == Touch.Kind.RETRY) {
             compared.add(thing);
         }
     }
@@ -180,8 +180,9 @@ final class Course {
             dark = dark || LOCKS.matcher(program.names().shown(call.target().name())).matches();
             Touch touch = touches.get(call.place());
             if (touch != null) {
-                // What is several steps is two events.
-                steps(call.target().body()).forEach(each -> event(touch.object(), touch));
+                // What is several steps is two events, unless it changes one thing at one moment.
+                List<Part> steps = steps(call.target().body());
+                (touch.kind().changesOnce() ? steps.subList(0, 1) : steps).forEach(each -> event(touch.object(), touch));
             }
         } else if (depth < DEEPEST) {
             List<Method> all = callees.of(call.target());

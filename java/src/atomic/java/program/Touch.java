@@ -22,12 +22,21 @@ public record Touch(Object object, Kind kind, String asked) {
         ADD,
         /** It changes something. */
         CHANGE,
+        /** It changes one thing by a function of what is there, and where it tries again, what failed only looked. */
+        UPDATE,
         /** It changes something if nobody came in between. */
-        COMPARE;
+        COMPARE,
+        /** It changes something, and tries again until nobody came in between. */
+        RETRY;
 
         /** Whether it may change the object. */
         public boolean writes() {
-            return this == ADD || this == CHANGE || this == COMPARE;
+            return this != LOOK && this != FIND;
+        }
+
+        /** Whether it changes one thing at one moment, however many steps it counts as. */
+        public boolean changesOnce() {
+            return this == ADD || this == UPDATE || this == COMPARE || this == RETRY;
         }
     }
 }

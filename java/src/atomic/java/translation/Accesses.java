@@ -79,6 +79,7 @@ final class Accesses {
             services.methods().repeats(services.attribution().name(at), services.attribution().name(at));
         } else if (!settled && !(looksAgain(field, at) && services.program().sure()) && !isStable(field, at)) {
             access(holder, home.field(), false, at);
+            new Versions(services).note(field, false, at);
         }
         if (owned) {
             Fields.Home contents = services.fields().contents(field);
@@ -180,6 +181,7 @@ final class Accesses {
             Fields.Home home = services.fields().home(field);
             if (!isStable(field, at)) {
                 access(holder(field, home, receiver), home.field(), true, at);
+                new Versions(services).note(field, true, at);
             }
         }
     }

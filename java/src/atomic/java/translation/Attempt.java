@@ -3,6 +3,7 @@ package atomic.java.translation;
 import atomic.java.ownership.Uses;
 import atomic.java.program.JavaMethod;
 import com.sun.source.tree.AssignmentTree;
+import com.sun.source.tree.BinaryTree;
 import com.sun.source.tree.BlockTree;
 import com.sun.source.tree.ClassTree;
 import com.sun.source.tree.CompoundAssignmentTree;
@@ -26,6 +27,8 @@ import javax.lang.model.element.Element;
 import javax.lang.model.element.ElementKind;
 import javax.lang.model.element.ExecutableElement;
 import javax.lang.model.element.VariableElement;
+import javax.lang.model.type.DeclaredType;
+import javax.lang.model.type.TypeKind;
 import javax.lang.model.type.TypeMirror;
 
 /**
@@ -42,42 +45,83 @@ record Attempt(MethodInvocationTree look, MethodInvocationTree change, VariableE
         "java.util.concurrent.atomic.AtomicLong", "java.util.concurrent.atomic.AtomicBoolean",
         "java.util.concurrent.atomic.AtomicReference");
     private static final Set<String> CHANGES = Set.of("compareAndSet", "weakCompareAndSetVolatile");
+    private static final Set<String> MAPS = Set.of("java.util.concurrent.ConcurrentMap",
+        "java.util.concurrent.ConcurrentNavigableMap", "java.util.concurrent.ConcurrentHashMap",
+        "java.util.concurrent.ConcurrentSkipListMap");
+    private static final Set<String> VALUES = Set.of("java.lang.String", "java.lang.Boolean", "java.lang.Character",
+        "java.lang.Byte", "java.lang.Short", "java.lang.Integer", "java.lang.Long", "java.lang.Float", "java.lang.Double");
     private static final Set<Tree.Kind> REFUSED = Set.of(Tree.Kind.CONTINUE, Tree.Kind.LAMBDA_EXPRESSION,
         Tree.Kind.MEMBER_REFERENCE, Tree.Kind.SYNCHRONIZED, Tree.Kind.TRY, Tree.Kind.LABELED_STATEMENT,
         Tree.Kind.WHILE_LOOP, Tree.Kind.DO_WHILE_LOOP, Tree.Kind.FOR_LOOP, Tree.Kind.ENHANCED_FOR_LOOP);
 
     /** Whether a call has the name of an attempt. */
     static boolean isNamed(MethodInvocationTree call) {
-        return call.getMethodSelect() instanceof MemberSelectTree select
-            && CHANGES.contains(select.getIdentifier().toString()) && call.getArguments().size() == 2;
+        return call.getMethodSelect() instanceof MemberSelectTree select && call.getArguments().size() == 2
+            && CHANGES.contains(select.getIdentifier().toString()) || isOfKey(call);
+    }
+
+    /** Whether a call has the name of an attempt with one key of a map: {@code replace(k, old, v)}, {@code remove(k, old)}. */
+    static boolean isOfKey(MethodInvocationTree call) {
+        String name = call.getMethodSelect() instanceof MemberSelectTree select ? select.getIdentifier().toString() : "";
+        return name.equals("replace") && call.getArguments().size() == 3
+            || name.equals("remove") && call.getArguments().size() == 2;
     }
 
     /** The attempt of a turn, whose look is among the statements before it; null where it isn't one. */
     static Attempt of(ExpressionTree tree, List<StatementTree> before, Services services) {
-        if (!(tree instanceof MethodInvocationTree change) || !isNamed(change) || variable(change, services) == null
-                || !(services.attribution().element(Uses.bare(change.getArguments().get(0))) instanceof VariableElement old)
-                || old.getKind() != ElementKind.LOCAL_VARIABLE) {
+        if (!(tree instanceof MethodInvocationTree change) || !isNamed(change)) {
+            return null;
+        }
+        boolean ofKey = isOfKey(change);
+        Element changed = variable(change, ofKey ? MAPS : CLASSES, services);
+        if (changed == null || !(services.attribution().element(Uses.bare(change.getArguments().get(ofKey ? 1 : 0)))
+                instanceof VariableElement old)
+                || old.getKind() != ElementKind.LOCAL_VARIABLE || ofKey && !isValue(old.asType(), services)) {
             return null;
         }
         for (StatementTree each : before) {
             if (assigned(each, services) == old && value(each) instanceof MethodInvocationTree look
-                    && look.getMethodSelect() instanceof MemberSelectTree select && look.getArguments().isEmpty()
-                    && select.getIdentifier().contentEquals("get")
-                    && variable(change, services) == variable(look, services)) {
+                    && look.getMethodSelect() instanceof MemberSelectTree select
+                    && select.getIdentifier().contentEquals("get") && asksTheSame(look, change, services)
+                    && changed == variable(look, ofKey ? MAPS : CLASSES, services)) {
                 return new Attempt(look, change, old, services);
             }
         }
         return null;
     }
 
+    /** Whether a look asks for what an attempt changes: the only value, or that of the same key. */
+    private static boolean asksTheSame(MethodInvocationTree look, MethodInvocationTree change, Services services) {
+        if (!isOfKey(change)) {
+            return look.getArguments().isEmpty();
+        }
+        ExpressionTree key = Uses.bare(change.getArguments().get(0));
+        Element symbol = services.attribution().element(key);
+        return look.getArguments().size() == 1 && (key instanceof LiteralTree literal
+            ? Uses.bare(look.getArguments().get(0)) instanceof LiteralTree other && literal.getValue().equals(other.getValue())
+            : key instanceof IdentifierTree && symbol instanceof VariableElement variable
+                && !variable.getKind().isField() && services.uses().isSettled(variable)
+                && services.attribution().element(Uses.bare(look.getArguments().get(0))) == variable);
+    }
+
+    /** Whether two equal objects of a type are the same in all that they tell: a map holds them against each other so. */
+    private static boolean isValue(TypeMirror type, Services services) {
+        return VALUES.contains(type.toString()) || type instanceof DeclaredType declared
+            && declared.asElement().getKind() == ElementKind.ENUM;
+    }
+
     /** The variable of a library's class that a call is made on, where its name means the same object each time. */
     static Element variable(MethodInvocationTree call, Services services) {
+        return variable(call, CLASSES, services);
+    }
+
+    private static Element variable(MethodInvocationTree call, Set<String> classes, Services services) {
         ExpressionTree object = ((MemberSelectTree) call.getMethodSelect()).getExpression();
         Element symbol = services.attribution().element(object);
         boolean own = object instanceof IdentifierTree
             || object instanceof MemberSelectTree select && select.getExpression().toString().equals("this");
         TypeMirror type = services.attribution().type(object);
-        if (!own || type == null || !CLASSES.contains(services.attribution().types().erasure(type).toString())
+        if (!own || type == null || !classes.contains(services.attribution().types().erasure(type).toString())
                 || !(symbol instanceof VariableElement variable)) {
             return null;
         }
@@ -185,6 +229,20 @@ record Attempt(MethodInvocationTree look, MethodInvocationTree change, VariableE
                 default -> { }
             }
             return super.visitUnary(tree, nothing);
+        }
+
+        /** What a map takes for the same may be another object, so a turn must not ask which one it is. */
+        @Override
+        public Void visitBinary(BinaryTree tree, Void nothing) {
+            boolean identity = tree.getKind() == Tree.Kind.EQUAL_TO || tree.getKind() == Tree.Kind.NOT_EQUAL_TO;
+            holds &= !identity || !isObject(tree.getLeftOperand()) || !isObject(tree.getRightOperand());
+            return super.visitBinary(tree, nothing);
+        }
+
+        private boolean isObject(ExpressionTree tree) {
+            TypeMirror type = services.attribution().type(tree);
+            return change != null && isOfKey(change) && (type == null || !type.getKind().isPrimitive()
+                && type.getKind() != TypeKind.NULL);
         }
 
         private void change(ExpressionTree target) {

@@ -165,7 +165,7 @@ final class LibraryCalls {
                     body.emit(services.step(called.shown(), false, called.at()));
                     return;
                 }
-                boolean own = choice.runsFunctions() && called.arguments().stream().map(Uses::bare).anyMatch(each ->
+                boolean own = choice.runsFunctions() && !called.shown().matches("Concurrent.*replaceAll") && called.arguments().stream().map(Uses::bare).anyMatch(each ->
                     each instanceof LambdaExpressionTree || each instanceof MemberReferenceTree);
                 new Touches(services).note(called.at());
                 boolean any = own || isLock(called) || new StableLooks(services).counts(called);

@@ -2,7 +2,7 @@ package atomic.java.translation;
 
 import atomic.java.library.Choice;
 import atomic.java.ownership.Uses;
-import atomic.java.program.JavaMethod;
+import atomic.java.program.Touch;
 import atomic.java.skeleton.Part;
 import atomic.java.skeleton.Place;
 import com.sun.source.tree.BlockTree;
@@ -61,6 +61,8 @@ final class Retries {
         Place change = services.attribution().name(attempt.change());
         services.methods().repeats(look, change);
         services.methods().repeats(change, look);
+        services.program().touches().computeIfPresent(change, (key, touch) ->
+            new Touch(touch.object(), Touch.Kind.RETRY, touch.asked()));
         body.emit(Jumps.mayLeave(turn.before()) ? new Part.Either(steps.get(0), steps.get(1)) : steps.get(1));
         if (turn.success() != null) {
             body.emit(new Part.Either(body.collect(() -> statements.one(turn.success())), Part.NOTHING));

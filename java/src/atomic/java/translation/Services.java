@@ -90,6 +90,10 @@ final class Services {
         return methods;
     }
 
+    StableLooks stable() {
+        return new StableLooks(this);
+    }
+
     /** The field that an expression names whose objects are all made so that they never change; else null. */
     VariableElement immutable(ExpressionTree tree) {
         return attribution().element(Uses.bare(tree)) instanceof VariableElement field && field.getKind().isField()

@@ -82,7 +82,8 @@ record StableLooks(Services services) {
             && symbol.getEnclosingElement().getSimpleName().toString().endsWith("Map");
     }
 
-    private boolean isHidden(VariableElement field) {
+    /** Whether only the code at hand reaches a field. */
+    boolean isHidden(VariableElement field) {
         return field.getKind().isField() && field.getModifiers().contains(Modifier.PRIVATE)
             && services.program().find(field.getEnclosingElement()) != null && !services.uses().isReflected(field);
     }
@@ -97,7 +98,8 @@ record StableLooks(Services services) {
         return ADDING.contains(name) || name.equals("put") && looksBefore(call, select.getExpression().toString());
     }
 
-    private boolean looksBefore(MethodInvocationTree put, String map) {
+    /** Whether the region of a {@code put} has looked for its key before. */
+    boolean looksBefore(MethodInvocationTree put, String map) {
         Tree region = region(put);
         boolean[] found = new boolean[1];
         new TreeScanner<Void, Void>() {
@@ -113,7 +115,7 @@ record StableLooks(Services services) {
     }
 
     /** The innermost region of a lock around a tree, or null. */
-    private Tree region(Tree tree) {
+    Tree region(Tree tree) {
         Tree each = services.attribution().parent(tree);
         while (each != null && !(each instanceof MethodTree)) {
             boolean region = each instanceof SynchronizedTree

@@ -17,6 +17,8 @@ import javax.lang.model.element.VariableElement;
 record Touches(Services services) {
     private static final Set<String> FINDING = Set.of("get", "getOrDefault", "containsKey", "contains", "containsValue");
     private static final Set<String> ADDING = Set.of("putIfAbsent", "computeIfAbsent", "addIfAbsent");
+    private static final Set<String> UPDATING = Set.of("getAndUpdate", "updateAndGet", "getAndAccumulate",
+        "accumulateAndGet", "compute", "computeIfPresent", "merge");
     private static final Set<String> COMPARING = Set.of("compareAndSet", "weakCompareAndSet", "compareAndExchange",
         "weakCompareAndSetVolatile", "weakCompareAndSetPlain");
     private static final Set<String> LOOKING = Set.of("getPlain", "getAcquire", "getOpaque", "intValue", "longValue",
@@ -64,7 +66,7 @@ record Touches(Services services) {
             return Touch.Kind.LOOK;
         }
         return FINDING.contains(name) ? Touch.Kind.FIND : ADDING.contains(name) ? Touch.Kind.ADD
-            : COMPARING.contains(name) ? Touch.Kind.COMPARE : Touch.Kind.CHANGE;
+            : UPDATING.contains(name) ? Touch.Kind.UPDATE : COMPARING.contains(name) || Attempt.isOfKey(call) ? Touch.Kind.COMPARE : Touch.Kind.CHANGE;
     }
 
     /** The field whose object an expression gives, or a part of that; null where this isn't known. */
