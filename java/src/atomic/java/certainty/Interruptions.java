@@ -22,6 +22,7 @@ import java.util.Set;
  * <li>two changes, and the other one looks at both: a torn pair; to count up is no look;</li>
  * <li>a change of one thing and a later look at another, and the other one looks at the first and changes the second;</li>
  * <li>two looks, and the other one changes both: a torn look;</li>
+ * <li>two looks, each made whatever the other tells, of which one method changes one and another one then the other;</li>
  * <li>a look at one thing and a change of another, and the other method changes the one and touches the other.</li>
  * </ul>
  * No reason is a look that a region asks again before the second event, by itself or by what was looked at with it; a turn
@@ -78,7 +79,7 @@ public final class Interruptions {
             for (int first = 0; first < second && looks < most; first++) {
                 Event one = events.get(first);
                 Event two = events.get(second);
-                Method found = one.meets(two) && counts(course, first, second) ? between(one, two) : null;
+                Method found = one.meets(two) && counts(course, first, second) ? reason(course, one, two) : null;
                 if (found != null) {
                     return found;
                 }
@@ -100,19 +101,55 @@ public final class Interruptions {
         return !tried && !half && (one.writes() || course.askedAgain(first) > second);
     }
 
+    /** A method that tells the two steps apart; else one of two that change, one by one, the things that are looked at. */
+    private Method reason(Course course, Event one, Event two) {
+        Method found = between(one, two);
+        return found == null && needsBoth(course, one, two) ? oneByOne(one, two) : found;
+    }
+
     /** The other methods that touch both. */
     private List<Method> touching(Event one, Event two) {
-        if (byThing.isEmpty()) {
-            others.forEach(other -> course(other).events().forEach(each ->
-                byThing.computeIfAbsent(each.thing(), key -> new LinkedHashSet<>()).add(other)));
-        }
         if (byBoth.size() > MOST_PAIRS) {
             byBoth.clear();
         }
         return byBoth.computeIfAbsent(new Pair(one.thing(), two.thing()), key -> {
-            Set<Method> both = byThing.getOrDefault(key.two(), Set.of());
-            return byThing.getOrDefault(key.one(), Set.of()).stream().filter(both::contains).toList();
+            Set<Method> both = touching(two);
+            return touching(one).stream().filter(both::contains).toList();
         });
+    }
+
+    private Set<Method> touching(Event event) {
+        if (byThing.isEmpty()) {
+            others.forEach(other -> course(other).events().forEach(each ->
+                byThing.computeIfAbsent(each.thing(), key -> new LinkedHashSet<>()).add(other)));
+        }
+        return byThing.getOrDefault(event.thing(), Set.of());
+    }
+
+    /** Whether two looks at two things are both made whatever the first one tells: then what the method gives needs both. */
+    private static boolean needsBoth(Course course, Event one, Event two) {
+        return one.kind() == Touch.Kind.LOOK && two.kind() == Touch.Kind.LOOK && !one.isSame(two)
+            && one.branches().equals(two.branches()) && course.looks(one) && course.looks(two);
+    }
+
+    /** A method that changes the first thing, where another one then changes the second: so nobody ever had the two. */
+    private Method oneByOne(Event one, Event two) {
+        List<Event.Hold> around = one.around(two);
+        Method first = changing(one, around);
+        return first != null && changing(two, around) != null ? first : null;
+    }
+
+    private Method changing(Event event, List<Event.Hold> around) {
+        return touching(event).stream().filter(each -> {
+            looks++;
+            Course course = course(each);
+            return !course.isDark() && !isKeptOut(course, around)
+                && course.events().stream().anyMatch(other -> other.writes() && other.isSame(event));
+        }).findFirst().orElse(null);
+    }
+
+    private static boolean isKeptOut(Course course, List<Event.Hold> around) {
+        return around.stream().anyMatch(each -> course.taken().stream().anyMatch(each::keepsOut));
     }
 
     private Method between(Event one, Event two) {
@@ -120,8 +157,8 @@ public final class Interruptions {
         for (Method other : touching(one, two)) {
             looks++;
             Course course = course(other);
-            boolean kept = around.stream().anyMatch(each -> course.taken().stream().anyMatch(each::keepsOut));
-            if (!kept && !course.isDark() && told.computeIfAbsent(Question.of(course, one, two), Interruptions::tells)) {
+            if (!isKeptOut(course, around) && !course.isDark()
+                && told.computeIfAbsent(Question.of(course, one, two), Interruptions::tells)) {
                 return other;
             }
         }

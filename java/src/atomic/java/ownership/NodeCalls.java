@@ -119,7 +119,9 @@ final class NodeCalls {
         boolean bound = qualifier instanceof VariableElement;
         Choice choice = program.library().choose(bound ? attribution.type(reference.getQualifierExpression())
             : symbol.getEnclosingElement().asType(), atomic.java.library.Library.key(symbol));
-        boolean looks = choice.kind() == Choice.Kind.PURE && !choice.keeps() && !choice.fills();
+        // An entry is a part of the map that gives it: what a look at it gives has to say by its type that it is a node.
+        boolean entry = choice.kind() == Choice.Kind.READS && symbol.getEnclosingElement().toString().equals("java.util.Map.Entry");
+        boolean looks = entry || choice.kind() == Choice.Kind.PURE && !choice.keeps() && !choice.fills();
         return bound ? types.isNodes(reference.getQualifierExpression())
             && (choice.kind() == Choice.Kind.READS || choice.kind() == Choice.Kind.WRITES) : looks;
     }

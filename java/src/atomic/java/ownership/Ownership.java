@@ -264,7 +264,7 @@ public final class Ownership {
         return choice.makes();
     }
 
-    /** The new array that a method gives at each return, where no other method may run in its place; else null. */
+    /** The class of the new array or collection that a method gives at each return, where no other method may run in its place; else null. */
     private String returned(JavaMethod method) {
         String known = given.get(method);
         if (known == null) {
@@ -273,6 +273,12 @@ public final class Ownership {
             given.put(method, known);
         }
         return known.isEmpty() ? null : known;
+    }
+
+    /** Whether a class is one of arrays or collections that have all of their contents themselves: a new one is its maker's. */
+    public static boolean isNew(String made) {
+        return made != null && (made.equals("[]") || made.startsWith("java.util.") && !made.startsWith("java.util.stream.")
+            && !made.equals("java.util.Collections.Synchronized"));
     }
 
     private boolean isOverridden(JavaMethod method) {
@@ -296,7 +302,8 @@ public final class Ownership {
             }
         }.scan(method.tree().getBody(), null);
         found.remove("null");
-        return found.equals(Set.of("[]")) ? "[]" : UNKNOWN;
+        String one = found.size() == 1 ? found.iterator().next() : UNKNOWN;
+        return isNew(one) ? one : UNKNOWN;
     }
 
     private String name(TypeMirror type) {
@@ -328,6 +335,13 @@ public final class Ownership {
                 "majority: the contents of " + field + " get away here, which isn't judged"));
         }
         return few || leaks.isEmpty();
+    }
+
+    /** Where the objects of a hidden field get out, of those that are made for it; nowhere where they aren't. */
+    public List<Tree> exits(VariableElement field) {
+        boolean hidden = field.getKind() == ElementKind.FIELD && field.getModifiers().contains(Modifier.PRIVATE)
+            && made(field) != null;
+        return hidden ? uses.of(field).stream().filter(use -> escape.from(use) != Escape.NEVER).toList() : List.of();
     }
 
     /** The offset from which on the object in a local may be known to others; 0 where it isn't a new one. */

@@ -1,6 +1,7 @@
 package atomic.java.translation;
 
 import atomic.java.ownership.Escape;
+import atomic.java.ownership.Ownership;
 import atomic.java.ownership.Uses;
 import atomic.java.program.JavaClass;
 import atomic.java.program.JavaMethod;
@@ -53,7 +54,7 @@ final class Calls {
         invoke(method, receiver, arguments, tree);
         VariableElement field = services.ownership().holding(symbol);
         return field != null ? new Accesses(services, body).confined(field, services.attribution().start(tree))
-            : "[]".equals(services.ownership().fresh(tree)) ? new Value.Fresh(null) : Value.OPAQUE;
+            : Ownership.isNew(services.ownership().fresh(tree)) ? new Value.Fresh(null) : Value.OPAQUE;
     }
 
     /** Writes a function behind an interface of the sources that is only called here; whether it is one. */

@@ -33,6 +33,7 @@ final class Contents {
     /** An element of an array. Of an array that others may know it is a step. */
     void element(Value array, boolean write, ArrayAccessTree at) {
         if (!known(array, write, at, at.getExpression().toString())) {
+            exits(at.getExpression(), write);
             TypeKind kind = services.attribution().type(at).getKind();
             body.emit(services.doubt(Method.Doubt.ANY, "an element", kind == TypeKind.LONG || kind == TypeKind.DOUBLE,
                 body, at, ARRAY));
@@ -49,10 +50,21 @@ final class Contents {
     /** A call that looks at an object's contents or changes them; of an object that others may know it is compound. */
     void call(Value object, boolean write, Tree at, String shown) {
         if (!known(object, write, at, shown)) {
+            if (at instanceof MethodInvocationTree called && called.getMethodSelect() instanceof MemberSelectTree select) {
+                exits(select.getExpression(), write);
+            }
             Method.Doubt doubt = shown.startsWith("Entry.") ? Method.Doubt.ANY : doubt(object, at);
             body.emit(services.doubt(doubt, shown, true, body, at,
                 "object of others: other threads may know the object of " + shown
                     + ", so the call counts as several steps"));
+        }
+    }
+
+    /** Tells where the object that is changed here gets out of its field: who has it needs no lock to look at it. */
+    private void exits(ExpressionTree named, boolean write) {
+        if (write && services.attribution().element(Uses.bare(named)) instanceof VariableElement field) {
+            services.ownership().exits(field).forEach(each -> services.hint(each, "object of others: what "
+                + field.getSimpleName() + " holds gets out here, so that others may touch it without any lock"));
         }
     }
 

@@ -76,7 +76,9 @@ final class LibraryCalls {
             return new Value.Fresh(null);
         }
         Choice choice = choose(before, symbol, isStatic);
-        List<Value> values = values(tree.getArguments(), choice);
+        List<Value> values = new ArrayList<>();
+        body.over(choice.kind() == Choice.Kind.RUN ? object : body.element(), () ->
+            values.addAll(values(tree.getArguments(), choice)));
         Called called = new Called(shown(symbol, before, isStatic), object, choice, tree, tree.getArguments());
         new Arguments(services, body).lookAt(called, values);
         if (choice.kind() == Choice.Kind.RUN || choice.kind() == Choice.Kind.VIEW && before != null
@@ -161,7 +163,7 @@ final class LibraryCalls {
             }
             case STEP -> step(called);
             case COMPOUND -> {
-                if (isRetry(called)) {
+                if (isRetry(called) || services.stable().countsByOne(called)) {
                     body.emit(services.step(called.shown(), false, called.at()));
                     return;
                 }
@@ -177,8 +179,8 @@ final class LibraryCalls {
             default -> unknown(called);
         }
         if (choice.runsFunctions()) {
-            body.over(called.object(), () -> services.functions().callAll(called.arguments(), body, called.at(),
-                choice.once()));
+            Value walked = new Pipelines(services, body).isCollected(called.at()) ? body.element() : called.object();
+            body.over(walked, () -> services.functions().callAll(called.arguments(), body, called.at(), choice.once()));
         }
     }
 

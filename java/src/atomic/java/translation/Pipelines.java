@@ -100,6 +100,18 @@ final class Pipelines {
         }
     }
 
+    /** Whether a call makes a collector, or a part of one, for the pipeline that ends here: its functions run over what that does. */
+    boolean isCollected(Tree at) {
+        Element symbol = services.attribution().element(at);
+        Tree around = services.attribution().parent(at);
+        if (symbol == null || !(around instanceof MethodInvocationTree call) || !call.getArguments().contains(at)
+                || !symbol.getEnclosingElement().toString().equals("java.util.stream.Collectors")) {
+            return false;
+        }
+        return call.getMethodSelect() instanceof MemberSelectTree select && select.getIdentifier().contentEquals("collect")
+            || isCollected(around);
+    }
+
     boolean isStream(TypeMirror type) {
         TypeElement stream = services.attribution().elements().getTypeElement(STREAM);
         var types = services.attribution().types();

@@ -54,12 +54,26 @@ record StableLooks(Services services) {
 
     /** Whether a call looks at a hidden counter of several cells that only counts up: the sum was so at some moment. */
     boolean counts(LibraryCalls.Called called) {
+        return counts(called, Set.of("increment", "add", "sum", "intValue", "longValue"));
+    }
+
+    /**
+     * Whether a counter only counts up by one. Its sum is at least what it was when the call began, and at most what it is
+     * when the call ends; and the counter had each number in between at some moment. So the call is one step, in that moment.
+     */
+    boolean countsByOne(LibraryCalls.Called called) {
+        return counts(called, Set.of("increment", "sum", "intValue", "longValue"));
+    }
+
+    private boolean counts(LibraryCalls.Called called, Set<String> calls) {
         return called.at() instanceof MethodInvocationTree call && call.getMethodSelect() instanceof MemberSelectTree select
             && called.shown().startsWith("LongAdder.")
             && services.attribution().element(Uses.bare(select.getExpression())) instanceof VariableElement field
-            && isHidden(field) && services.uses().of(field).stream().allMatch(use ->
-                services.attribution().parent(use) instanceof MemberSelectTree each
-                && Set.of("increment", "add", "sum", "intValue", "longValue").contains(each.getIdentifier().toString()));
+            && calls.contains(select.getIdentifier().toString()) && isHidden(field)
+            && services.fields().isSettled(field) && services.uses().of(field).stream().allMatch(use ->
+                services.uses().isTarget(use) || services.attribution().parent(use) instanceof MemberSelectTree each
+                && services.attribution().parent(each) instanceof MethodInvocationTree
+                && calls.contains(each.getIdentifier().toString()));
     }
 
     /** Whether a call only looks at an object in a hidden field which some other call changes while it holds a lock. */
