@@ -111,7 +111,7 @@ public class LoadGauge {
         synchronized (window) { return Arrays.stream(window, 0, Math.min(seen, WINDOW)).average().orElse(0); }
     }
 
-    public long events() { return events.sum(); } // refused: alarm: one operation of a concurrent object
+    public long events() { return events.sum(); } // accepted
     public void event() { events.increment(); } // accepted
 
     public String unit() { // refused: alarm: unit is set at most once

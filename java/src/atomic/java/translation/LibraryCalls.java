@@ -297,6 +297,8 @@ final class LibraryCalls {
         Choice choice = called.choice();
         if (choice.makes() != null) {
             return !called.shown().endsWith(".clone") || isMadeNew(called) ? new Value.Fresh(null) : Value.OPAQUE;
+        } else if (called.at() instanceof MethodInvocationTree call && services.immutable(call) != null) {
+            return services.fields().unchanging(services.immutable(call));
         } else if (immutable(called) != null && SHOWING.contains(name(called))) {
             return services.fields().unchanging(immutable(called));
         } else if (choice.kind() == Choice.Kind.VIEW || choice.kind() == Choice.Kind.PIPE) {

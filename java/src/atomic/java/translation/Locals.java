@@ -43,6 +43,10 @@ final class Locals {
 
     /** The value of a local or parameter where it is read. */
     Value read(VariableElement variable, long offset) {
+        VariableElement unchanging = services.immutables().of(variable);
+        if (unchanging != null) {
+            return services.fields().unchanging(unchanging);
+        }
         JavaClass node = services.program().find(variable.asType());
         JavaClass container = services.nodes().container(node);
         if (container != null) {

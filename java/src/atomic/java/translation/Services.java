@@ -31,6 +31,7 @@ final class Services {
     private final Methods methods;
     private final Functions functions;
     private final Computing computing;
+    private final Immutables immutables = new Immutables(this);
     private final Map<String, Method> helpers = new HashMap<>();
     private final Field state;
 
@@ -94,11 +95,14 @@ final class Services {
         return new StableLooks(this);
     }
 
-    /** The field that an expression names whose objects are all made so that they never change; else null. */
+    /** The field whose collection an expression gives, where that never changes; else null. */
     VariableElement immutable(ExpressionTree tree) {
-        return attribution().element(Uses.bare(tree)) instanceof VariableElement field && field.getKind().isField()
-            && program.find(field.getEnclosingElement()) != null && !uses.isReflected(field)
-            && "java.util.ImmutableCollections".equals(ownership.made(field)) ? field : null;
+        return immutables.of(tree);
+    }
+
+    /** Collections that never change. */
+    Immutables immutables() {
+        return immutables;
     }
 
     /** A call of what is one step, or several, that Java calls {@code shown}. */
