@@ -8,7 +8,12 @@ class SumOfAdder {
     private final LongAdder reset = new LongAdder();
     private final LongAdder given = new LongAdder();
     private final LongAdder floating = new LongAdder();
+    private final LongAdder brought;
     final LongAdder open = new LongAdder();
+
+    SumOfAdder(LongAdder brought) {
+        this.brought = brought;
+    }
 
     void count(int more) {
         ones.increment();
@@ -20,6 +25,7 @@ class SumOfAdder {
         reset.reset();
         given.increment();
         floating.increment();
+        brought.increment();
         open.increment();
     }
 
@@ -53,6 +59,10 @@ class SumOfAdder {
 
     /* atomic */ long knownToOthers() { // refused
         return given.sum();
+    }
+
+    /* atomic */ long brought() { // refused
+        return brought.sum();
     }
 
     /* atomic */ long open() { // refused

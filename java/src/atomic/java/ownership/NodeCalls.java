@@ -120,7 +120,8 @@ final class NodeCalls {
         Choice choice = program.library().choose(bound ? attribution.type(reference.getQualifierExpression())
             : symbol.getEnclosingElement().asType(), atomic.java.library.Library.key(symbol));
         // An entry is a part of the map that gives it: what a look at it gives has to say by its type that it is a node.
-        boolean entry = choice.kind() == Choice.Kind.READS && symbol.getEnclosingElement().toString().equals("java.util.Map.Entry");
+        boolean entry = choice.kind() == Choice.Kind.READS
+            && symbol.getEnclosingElement().toString().equals("java.util.Map.Entry");
         boolean looks = entry || choice.kind() == Choice.Kind.PURE && !choice.keeps() && !choice.fills();
         return bound ? types.isNodes(reference.getQualifierExpression())
             && (choice.kind() == Choice.Kind.READS || choice.kind() == Choice.Kind.WRITES) : looks;

@@ -223,7 +223,8 @@ public final class Ownership {
         } else if (bare instanceof ConditionalExpressionTree either) {
             String left = fresh(either.getTrueExpression());
             String right = fresh(either.getFalseExpression());
-            return left == null || right == null ? null : left.equals("null") ? right : left;
+            return left == null || right == null ? null : left.equals("null") ? right
+                : right.equals("null") || left.equals(right) ? left : "java.lang.Object";
         } else if (bare instanceof MethodInvocationTree call) {
             return freshCall(call);
         }

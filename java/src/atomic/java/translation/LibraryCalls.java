@@ -154,6 +154,10 @@ final class LibraryCalls {
                 services.attribution().name(called.at())));
             return;
         }
+        if (choice.kind() == Choice.Kind.COMPOUND && (isRetry(called) || services.stable().countsByOne(called))) {
+            body.emit(services.step(called.shown(), false, called.at()));
+            return;
+        }
         switch (choice.kind()) {
             case PURE, VIEW, PIPE -> { }
             case ASSUMED -> {
@@ -162,18 +166,7 @@ final class LibraryCalls {
                 }
             }
             case STEP -> step(called);
-            case COMPOUND -> {
-                if (isRetry(called) || services.stable().countsByOne(called)) {
-                    body.emit(services.step(called.shown(), false, called.at()));
-                    return;
-                }
-                boolean own = choice.runsFunctions() && !called.shown().matches("Concurrent.*replaceAll") && called.arguments().stream().map(Uses::bare).anyMatch(each ->
-                    each instanceof LambdaExpressionTree || each instanceof MemberReferenceTree);
-                new Touches(services).note(called.at());
-                boolean any = own || isLock(called) || new StableLooks(services).counts(called);
-                body.emit(services.doubt(any ? Method.Doubt.ANY : Method.Doubt.OPEN, called.shown(), true, body, called.at(),
-                    "compound library call: " + called.shown() + " counts as several steps"));
-            }
+            case COMPOUND -> compound(called);
             case READS, WRITES, RUN -> new Contents(services, body).call(called.object(),
                 choice.kind() == Choice.Kind.WRITES, called.at(), called.shown());
             default -> unknown(called);
@@ -195,6 +188,17 @@ final class LibraryCalls {
             ? services.ownership().made(variable) : null;
         String type = services.attribution().types().erasure(services.attribution().type(select.getExpression())).toString();
         return OWN_MONITOR.contains(type) || made != null && OWN_MONITOR.contains(made);
+    }
+
+    private void compound(Called called) {
+        // One key after the other is surely several steps, whatever the function does.
+        boolean many = called.shown().matches("Concurrent.*replaceAll");
+        boolean own = called.choice().runsFunctions() && !many && called.arguments().stream().map(Uses::bare).anyMatch(each ->
+            each instanceof LambdaExpressionTree || each instanceof MemberReferenceTree);
+        new Touches(services).note(called.at());
+        boolean any = own || isLock(called) || services.stable().counts(called);
+        body.emit(services.doubt(any ? Method.Doubt.ANY : Method.Doubt.OPEN, called.shown(), true, body, called.at(),
+            "compound library call: " + called.shown() + " counts as several steps"));
     }
 
     /** Whether a call tries again by itself until nobody came in between, with a function that has no step. */

@@ -100,7 +100,7 @@ final class Pipelines {
         }
     }
 
-    /** Whether a call makes a collector, or a part of one, for the pipeline that ends here: its functions run over what that does. */
+    /** Whether a call makes a collector, or a part of one, for the pipeline that ends here, which calls its functions. */
     boolean isCollected(Tree at) {
         Element symbol = services.attribution().element(at);
         Tree around = services.attribution().parent(at);

@@ -70,8 +70,10 @@ record StableLooks(Services services) {
             && called.shown().startsWith("LongAdder.")
             && services.attribution().element(Uses.bare(select.getExpression())) instanceof VariableElement field
             && calls.contains(select.getIdentifier().toString()) && isHidden(field)
-            && services.fields().isSettled(field) && services.uses().of(field).stream().allMatch(use ->
-                services.uses().isTarget(use) || services.attribution().parent(use) instanceof MemberSelectTree each
+            && services.fields().isSettled(field)
+            && "java.util.concurrent.atomic.LongAdder".equals(services.ownership().made(field))
+            && services.uses().of(field).stream().allMatch(use -> services.uses().isTarget(use)
+                || services.attribution().parent(use) instanceof MemberSelectTree each
                 && services.attribution().parent(each) instanceof MethodInvocationTree
                 && calls.contains(each.getIdentifier().toString()));
     }

@@ -66,7 +66,8 @@ record Touches(Services services) {
             return Touch.Kind.LOOK;
         }
         return FINDING.contains(name) ? Touch.Kind.FIND : ADDING.contains(name) ? Touch.Kind.ADD
-            : UPDATING.contains(name) ? Touch.Kind.UPDATE : COMPARING.contains(name) || Attempt.isOfKey(call) ? Touch.Kind.COMPARE : Touch.Kind.CHANGE;
+            : UPDATING.contains(name) ? Touch.Kind.UPDATE
+            : COMPARING.contains(name) || Attempt.isOfKey(call) ? Touch.Kind.COMPARE : Touch.Kind.CHANGE;
     }
 
     /** The field whose object an expression gives, or a part of that; null where this isn't known. */

@@ -34,7 +34,8 @@ record Versions(Services services) {
             && FINDING.contains(select.getIdentifier().toString())
             && services.attribution().parent(select) instanceof MethodInvocationTree;
         if ((write || finds) && grows(field)) {
-            String asked = finds ? ((MethodInvocationTree) services.attribution().parent(parent)).getArguments().toString() : "";
+            String asked = finds ? ((MethodInvocationTree) services.attribution().parent(parent)).getArguments().toString()
+                : "";
             services.program().touches().put(services.attribution().name(at),
                 new Touch(field, write ? Touch.Kind.ADD : Touch.Kind.FIND, asked));
         }
