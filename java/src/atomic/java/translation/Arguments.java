@@ -19,6 +19,13 @@ final class Arguments {
     /** Classes whose methods look at the reference of an argument alone. */
     private static final Set<String> BARE = Set.of("Objects.", "Optional.", "Thread.", "System.", "Reference.");
 
+    /** Calls that take all of a collection by its {@code toArray}. */
+    private static final Set<String> BY_ARRAY = Set.of("List.copyOf", "new ArrayList", "new LinkedList", "new Vector",
+        "new Stack", "new PriorityQueue", "new CopyOnWriteArrayList", "List.addAll", "ArrayList.addAll", "LinkedList.addAll",
+        "Vector.addAll", "Stack.addAll", "CopyOnWriteArrayList.addAll");
+    private static final Set<String> SNAPSHOTS = Set.of("java.util.concurrent.CopyOnWriteArrayList",
+        "java.util.concurrent.CopyOnWriteArraySet");
+
     private final Services services;
     private final Body body;
 
@@ -58,14 +65,20 @@ final class Arguments {
         }
     }
 
-    /** A collection that is safe by itself is looked at in one step where the table says so of {@code toArray}. */
+    /**
+     * A collection that is safe by itself is looked at in one step where the table says so of {@code toArray}, and the call
+     * takes that, or where its iterator walks over what was there at the beginning. Any other call walks over it, element by
+     * element: {@code new HashSet<>(vector)}.
+     */
     private void lookAtSafe(TypeMirror type, LibraryCalls.Called called) {
         boolean map = isBelow(type, "java.util.Map");
         if (!map && !isBelow(type, "java.util.Collection") || services.program().find(type) != null) {
             return;
         }
         Choice.Kind kind = services.program().library().choose(type, map ? "entrySet" : "toArray").kind();
-        if (kind == Choice.Kind.STEP) {
+        boolean whole = BY_ARRAY.contains(called.shown())
+            || SNAPSHOTS.contains(services.attribution().types().erasure(type).toString());
+        if (kind == Choice.Kind.STEP && whole) {
             body.emit(services.step(called.shown(), false, called.at()));
         } else if (kind != Choice.Kind.PURE) {
             body.emit(services.doubt(Method.Doubt.OPEN, called.shown(), true, body, called.at(),
