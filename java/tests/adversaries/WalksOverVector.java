@@ -13,10 +13,12 @@ import java.util.concurrent.CopyOnWriteArrayList;
 
 class WalksOverVector {
     private final Vector<String> names = new Vector<>();
+    private final Vector<String> others = new Vector<>();
     private final CopyOnWriteArrayList<String> copied = new CopyOnWriteArrayList<>();
 
     void put(int at, String name) {
         names.set(at, name);
+        others.set(at, name);
         copied.set(at, name);
     }
 
@@ -58,6 +60,10 @@ class WalksOverVector {
 
     /* atomic */ String most() { // refused
         return Collections.max(names);
+    }
+
+    /* atomic */ boolean same() { // refused
+        return names.equals(others);
     }
 
     /* atomic */ boolean allOf(List<String> some) { // refused
