@@ -92,7 +92,7 @@ public final class Escape {
         } else if (parent instanceof ReturnTree) {
             return attribution.end(parent);
         } else if (parent instanceof MemberReferenceTree reference) {
-            return isCalledAtOnce(reference) || isHandedOn.test(reference) ? NEVER : attribution.start(reference);
+            return asReference(reference);
         } else if (parent instanceof ConditionalExpressionTree condition) {
             return condition.getCondition() == use ? NEVER : from(parent);
         } else if (parent instanceof EnhancedForLoopTree loop && results.mentionsEntry(
@@ -109,6 +109,22 @@ public final class Escape {
             case LAMBDA_EXPRESSION -> attribution.start(parent);
             default -> attribution.start(use);
         };
+    }
+
+    /** A method of the object that a name stands for: who calls it gets what it gives, such as a view of the object. */
+    private long asReference(MemberReferenceTree reference) {
+        boolean called = isCalledAtOnce(reference) || isHandedOn.test(reference);
+        if (!called || !(attribution.element(reference) instanceof ExecutableElement symbol) || givesItself(symbol)) {
+            return attribution.start(reference);
+        }
+        JavaMethod method = program.method(symbol);
+        if (method != null) {
+            return selves.leaks(method) ? attribution.start(reference) : NEVER;
+        }
+        Choice choice = program.library().choose(attribution.type(reference.getQualifierExpression()), Library.key(symbol));
+        boolean shows = choice.kind() == Choice.Kind.VIEW || choice.kind() == Choice.Kind.PIPE
+            || results.mentionsEntry(attribution.type(reference));
+        return shows ? attribution.start(reference) : choice.kind() == Choice.Kind.UNKNOWN ? unknown(reference) : NEVER;
     }
 
     private long asReceiver(MemberSelectTree select) {
