@@ -20,6 +20,7 @@ mod reader;
 mod rising;
 mod scan;
 mod slots;
+mod spread;
 mod statements;
 mod told;
 mod walk;

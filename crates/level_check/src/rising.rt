@@ -5,6 +5,7 @@ ghost use Rattle.level_check.specs.Rises.{marks_of, are_links_met, leads_to};
 
 use crate::link::CellLinks;
 use crate::raise::raise_links;
+use crate::spread::{from_greatest, raise_each, raise_in_order};
 use fixpoint::{Rising, least};
 use std::alloc::{AllocError as NoMemory, Global};
 
@@ -56,9 +57,13 @@ impl Rising for Cells {
     }
 }
 
-/// Raises levels until no link asks for more.
+/// Raises levels until no link asks for more. First each link is followed once, and then from the greatest level down: so a level rises
+/// once more at most.
 pub(crate) fn settle(alloc: Global, cells: &mut Cells) -> Result<(), NoMemory>
     ensures { OnOk result (AreGreatest cells.old.rows.items cells.old.levels.items cells.new.levels.items) }
 {
+    raise_each(alloc, cells)?;
+    let order = from_greatest(alloc, cells.levels.as_slice())?;
+    raise_in_order(alloc, cells, order.as_slice())?;
     least(alloc, cells)
 }

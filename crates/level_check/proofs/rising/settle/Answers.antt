@@ -1,9 +1,17 @@
--- What is kept from the state where it began, and that no link asks for more.
-use Rattle.std.proofs.Common.{refl}
+-- What is kept from the state where it began, whatever rose first, and that no link asks for more.
+use Rattle.std.proofs.Common.{refl, subst}
+use Rattle.std.specs.Prelude.{OnOk}
+use Rattle.fixpoint.specs.Assignments.{AreAllMet}
 use Rattle.level_check.specs.Greatest.{at_start}
+use Rattle.level_check.specs.Rises.{marks_of, are_links_met}
 use Rattle.level_check.proofs.Settled.{settled}
 use Rattle.level_check.proofs.rising.settle.Goals as goal
 
 pub returns : goal.returns
 returns c =
-    settled c.least.result c.args.cells.now.rows.items c.args.cells.now.levels.items c.least.new.rising.levels.items (c.least.ensures.keeps c.args.cells.now (refl, refl, λ d u is. at_start is)).1 (c.least.ensures.keeps c.args.cells.now (refl, refl, λ d u is. at_start is)).2 c.least.ensures.closed
+    let s = c.args.cells.now in
+    let before = c.raise_in_order.ensures s (c.raise_each.ensures s (refl, refl, λ d u is. at_start is)) in
+    let after = c.least.ensures.keeps s before in
+    let new = c.least.new.rising.levels.items in
+    settled c.least.result s.rows.items s.levels.items new after.1 after.2
+    (subst (λ rows. OnOk c.least.result (AreAllMet (are_links_met rows) (marks_of new))) before.0 c.least.ensures.closed)
