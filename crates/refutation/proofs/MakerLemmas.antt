@@ -14,14 +14,13 @@ use Rattle.core_program.specs.declared.program.CoreMethod.{CoreMethod}
 use Rattle.core_program.specs.Views.{method_of}
 use Rattle.rules.specs.Near.{MethodPaths, AreRelevant, rel_of, rel_paths}
 use Rattle.rules.specs.Rules.{AtMost}
-use Rattle.rules.proofs.BasicLemmas.{below_chain}
 use Rattle.refutation.specs.Lines.{LineData, AreAscending, floor, overriding, joined_over, certified_effect}
 use Rattle.refutation.specs.Certificates.{keeps_bound}
 use Rattle.refutation.specs.Passes.{MethodAtSet, cells_in, cells_from, cells_of, subsets_of, LinesWritten, by_tests, floor_at, up_at, line_for, pass, Passes, broke, still, again}
-use Rattle.refutation.specs.Tables.{said_by, TablesSay}
+use Rattle.refutation.specs.Tables.{table_entry, said_by, TablesSay}
 use Rattle.refutation.specs.Ends.{cells_at, continued, IsPass, KeptAgrees, IsGoing}
+use Rattle.refutation.specs.Overs.{IsSaidOver}
 use Rattle.refutation.specs.Waiting.{IsMostOver}
-use Rattle.refutation.proofs.FloorLaws.{over_falls}
 use Rattle.refutation.proofs.Cells.{each_with, each_filter, each_implies}
 use Rattle.refutation.proofs.PassLaws.{room, whole_is, no_lines}
 
@@ -67,11 +66,12 @@ module _ (P : Program) (sets kept : List MethodPaths) (rows : List (List Basic))
   pub most_said : (m : ℕ) (most : Basic) (H : Held) → IsMostOver P (rel_of sets) lines m most → AtMost (joined_over (rel_of kept) (said_by (rel_of kept) rows) (overriding P m) H) most
   most_said m most H is = subst (λ b. AtMost b most) (sym (λ i. joined_over (rel_of (agrees.same i)) (said_is i) (overriding P m) H)) (is H)
 
-  -- it is what is said where no path is held
-  pub most_is : (m : ℕ) (most : Basic) → AtMost (joined_over (rel_of kept) (said_by (rel_of kept) rows) (overriding P m) (has_path [])) most → IsMostOver P (rel_of sets) lines m most
-  most_is m most low H = below_chain (joined_over (rel_of sets) (floor (rel_of sets) lines) (overriding P m) H) (joined_over (rel_of sets) (floor (rel_of sets) lines) (overriding P m) (has_path [])) most
-      (over_falls (rel_of sets) lines H (overriding P m))
-      (subst (λ b. AtMost b most) (λ i. joined_over (rel_of (agrees.same i)) (said_is i) (overriding P m) (has_path [])) low)
+  -- so is a table of what is said of them
+  pub said_kept : (m : ℕ) (table : List Basic) (whole : Bool) (most : Basic) → IsSaidOver P (rel_of sets) (floor (rel_of sets) lines) m table whole most → IsSaidOver P (rel_of kept) (said_by (rel_of kept) rows) m table whole most
+  said_kept m table whole most is = record {
+    each = λ e H. (λ i. table_entry (rel_of (agrees.same i) m) table H) ∙ is.each e H ∙ sym (λ i. joined_over (rel_of (agrees.same i)) (said_is i) (overriding P m) H);
+    low = λ H. most_said m most H is.low;
+  }
 
   -- what is known already adds no line
   pub ask_known : (m : ℕ) (held : List PathData) (found there : Basic) → found ≡ certified_effect P (rel_of sets) (said_by (rel_of kept) rows) m (has_path held) → there ≡ said_by (rel_of kept) rows m (has_path held) → below_of found there ≡ true

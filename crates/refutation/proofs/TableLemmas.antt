@@ -48,7 +48,7 @@ consts_length : (rel : List PathData) → length (consts rel) ≡ count_of_parts
 consts_length [] = refl
 consts_length (p ∷ ps) = let l = length-append (consts ps) (consts ps) in let half_is = consts_length ps in omega (arith, l, half_is)
 
-entry_consts : (rel : List PathData) (H : Held) → table_entry rel (consts rel) H ≡ Const
+pub entry_consts : (rel : List PathData) (H : Held) → table_entry rel (consts rel) H ≡ Const
 entry_consts [] H = refl
 entry_consts (p ∷ ps) H = ap (λ t. table_entry ps t H) (half_is (H p) (consts ps) (consts ps) refl ∙ either_same (H p) (consts ps)) ∙ entry_consts ps H
 

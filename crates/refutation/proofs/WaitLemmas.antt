@@ -26,6 +26,7 @@ use Rattle.refutation.specs.Lines.{LineData, covers, floor, overriding, joined_o
 use Rattle.refutation.specs.Certificates.{keeps_bound}
 use Rattle.refutation.specs.Passes.{MethodAtSet, cells_in, cells_from, subsets_of, LinesWritten, by_tests, floor_at, up_at, line_for, pass}
 use Rattle.refutation.specs.Ends.{IsPass}
+use Rattle.refutation.specs.Overs.{IsSaidOver}
 use Rattle.refutation.specs.Waiting.{Adds, IsMostOver, AreSaid, cells_with, AreSettled, AreWoken, IsAsleep}
 use Rattle.refutation.proofs.Sets.{join_const}
 use Rattle.refutation.proofs.Over.{over_least, over_above}
@@ -112,7 +113,7 @@ module _ (P : Program) (rel : ℕ → List PathData) where
       turned = ne_eqb l.method m (λ e. eqb-false m l.method other (sym e))
 
   -- where lines of a method are added, no more is said of those that override it
-  pub most_stays : (m : ℕ) (most : Basic) (old new : List LineData) → Adds m old new → IsMostOver P rel old m most → IsMostOver P rel new m most
+  most_stays : (m : ℕ) (most : Basic) (old new : List LineData) → Adds m old new → IsMostOver P rel old m most → IsMostOver P rel new m most
   most_stays m most old new adds is = subst (λ ls. IsMostOver P rel ls m most) (sym adds.are) (by adds.more old adds.its is)
     where
       one : (l : LineData) (ls : List LineData) → l.method ≡ m → IsMostOver P rel ls m most → IsMostOver P rel (ls ++ l ∷ []) m most
@@ -122,6 +123,29 @@ module _ (P : Program) (rel : ℕ → List PathData) where
       by : (more ls : List LineData) → AllByRecursion (λ l. l.method ≡ m) more → IsMostOver P rel ls m most → IsMostOver P rel (ls ++ more) m most
       by [] ls its is = subst (λ xs. IsMostOver P rel xs m most) (sym (append-nil ls)) is
       by (l ∷ more) ls its is = subst (λ xs. IsMostOver P rel xs m most) (append_assoc ls (l ∷ []) more) (by more (ls ++ l ∷ []) its.1 (one l ls its.0 is))
+
+  -- nor less
+  joined_stays : (m : ℕ) (old new : List LineData) → Adds m old new → (H : Held) → joined_over rel (floor rel old) (overriding P m) H ≡ joined_over rel (floor rel new) (overriding P m) H
+  joined_stays m old new adds H = by adds.more old adds.its ∙ ap (λ ls. joined_over rel (floor rel ls) (overriding P m) H) (sym adds.are)
+    where
+      same : (l : LineData) (ls : List LineData) → l.method ≡ m → (n : ℕ) → Overrides P n m → floor rel ls n (held_in (rel n) H) ≡ floor rel (ls ++ l ∷ []) n (held_in (rel n) H)
+      same l ls its n over = floor_other ls l n (ne_eqb n l.method (λ e. over.differs (e ∙ its))) (held_in (rel n) H)
+
+      one : (l : LineData) (ls : List LineData) → l.method ≡ m → joined_over rel (floor rel ls) (overriding P m) H ≡ joined_over rel (floor rel (ls ++ l ∷ [])) (overriding P m) H
+      one l ls its = both_below _ _
+          (over_least P rel (floor rel ls) m H _ (λ n over. subst (λ b. AtMost b (joined_over rel (floor rel (ls ++ l ∷ [])) (overriding P m) H)) (sym (same l ls its n over)) (over_above P rel (floor rel (ls ++ l ∷ [])) m H n over)))
+          (over_least P rel (floor rel (ls ++ l ∷ [])) m H _ (λ n over. subst (λ b. AtMost b (joined_over rel (floor rel ls) (overriding P m) H)) (same l ls its n over) (over_above P rel (floor rel ls) m H n over)))
+
+      by : (more ls : List LineData) → AllByRecursion (λ l. l.method ≡ m) more → joined_over rel (floor rel ls) (overriding P m) H ≡ joined_over rel (floor rel (ls ++ more)) (overriding P m) H
+      by [] ls its = ap (λ xs. joined_over rel (floor rel xs) (overriding P m) H) (sym (append-nil ls))
+      by (l ∷ more) ls its = one l ls its.0 ∙ by more (ls ++ l ∷ []) its.1 ∙ ap (λ xs. joined_over rel (floor rel xs) (overriding P m) H) (append_assoc ls (l ∷ []) more)
+
+  -- so a table of what is said of them tells it still
+  pub over_stays : (m : ℕ) (table : List Basic) (whole : Bool) (most : Basic) (old new : List LineData) → Adds m old new → IsSaidOver P rel (floor rel old) m table whole most → IsSaidOver P rel (floor rel new) m table whole most
+  over_stays m table whole most old new adds is = record {
+    each = λ e H. is.each e H ∙ joined_stays m old new adds H;
+    low = most_stays m most old new adds is.low;
+  }
 
   module _ (rows : List (List ℕ)) (overriders : AreOverriders P rows) where
     over_part : (A B : Assignment) (n m : ℕ) (H : Held) → ((k : ℕ) → (k == m) ≡ false → (K : Held) → A k K ≡ B k K) → (Overrides P m n → ⊥) → AtMost (joined_over rel A (overriding P n) H) (joined_over rel B (overriding P n) H)

@@ -8,16 +8,18 @@ ghost use Rattle.core_program.specs.Views.{program_of, method_of};
 ghost use Rattle.rules.specs.Near.{AreRelevant, rel_of};
 ghost use Rattle.rules.specs.Overriding.{AreOverriders};
 ghost use Rattle.rules.specs.Rules.{AtMost};
-ghost use Rattle.refutation.specs.Lines.{overriding, joined_over};
+ghost use Rattle.refutation.specs.Lines.{floor, overriding, joined_over};
 ghost use Rattle.refutation.specs.Tables.{said_by};
 ghost use Rattle.refutation.specs.Passes.{cells_in, subsets_of};
 ghost use Rattle.refutation.specs.Ends.{KeptAgrees, IsPass, cells_at};
-ghost use Rattle.refutation.specs.Waiting.{Adds, IsMostOver};
+ghost use Rattle.refutation.specs.Overs.{IsSaidOver};
+ghost use Rattle.refutation.specs.Waiting.{Adds};
 
 use crate::check::keeps_bound;
 use crate::floors::Floors;
 use crate::judged::Judged;
 use crate::line::Line;
+use crate::overs::{OverSaid, said_of_overriding};
 use crate::parts::{HeldSet, parts_with};
 use crate::said::Said;
 use crate::short_path::packed;
@@ -34,20 +36,20 @@ fn ask(
     alloc: Global,
     judged: &Judged<'_>,
     said: &mut Said<'_>,
-    most: Basic,
+    over: &OverSaid,
     method: MethodId,
     held: &[Path],
 ) -> Result<bool, NoMemory>
     requires there { method < length (program_of judged.now.program.now).methods }
     requires over { AreOverriders (program_of judged.now.program.now) judged.now.over.now }
-    requires most { IsMostOver (program_of judged.now.program.now) (rel_of judged.now.sets.now) said.old.lines.items method most }
+    requires said { let rel = rel_of judged.now.sets.now in IsSaidOver (program_of judged.now.program.now) rel (floor rel said.old.lines.items) method over.now.table over.now.whole over.now.most }
     requires agrees { KeptAgrees (program_of judged.now.program.now) judged.now.sets.now said.old.floors.sets.now said.old.floors.tables.items said.old.lines.items }
     requires ascends { IsStrictlySortedBy path_order held.now }
     ensures agrees { OnOk result (KeptAgrees (program_of judged.now.program.now) judged.now.sets.now said.new.floors.sets.now said.new.floors.tables.items said.new.lines.items) }
     ensures adds { OnOk result (Adds method said.old.lines.items said.new.lines.items) }
     ensures asked { IfOk result (λ broken. IsPass (program_of judged.now.program.now) (rel_of judged.now.sets.now) (record { method = method; held = held.now } ∷ []) said.old.lines.items said.new.lines.items broken) }
 {
-    let found = run_effect(alloc, judged, &said.floors, most, method, held)?;
+    let found = run_effect(alloc, judged, &said.floors, over, method, held)?;
     if found.below(said.floors.at(method, held)) {
         return Ok(false);
     }
@@ -66,13 +68,13 @@ fn ask_sets(
     alloc: Global,
     judged: &Judged<'_>,
     said: &mut Said<'_>,
-    most: Basic,
+    over: &OverSaid,
     method: MethodId,
     parts: &[HeldSet],
 ) -> Result<bool, NoMemory>
     requires there { method < length (program_of judged.now.program.now).methods }
     requires over { AreOverriders (program_of judged.now.program.now) judged.now.over.now }
-    requires most { IsMostOver (program_of judged.now.program.now) (rel_of judged.now.sets.now) said.old.lines.items method most }
+    requires said { let rel = rel_of judged.now.sets.now in IsSaidOver (program_of judged.now.program.now) rel (floor rel said.old.lines.items) method over.now.table over.now.whole over.now.most }
     requires agrees { KeptAgrees (program_of judged.now.program.now) judged.now.sets.now said.old.floors.sets.now said.old.floors.tables.items said.old.lines.items }
     requires ascend { AllByRecursion (IsStrictlySortedBy path_order) parts.now }
     ensures agrees { OnOk result (KeptAgrees (program_of judged.now.program.now) judged.now.sets.now said.new.floors.sets.now said.new.floors.tables.items said.new.lines.items) }
@@ -81,7 +83,7 @@ fn ask_sets(
 {
     for part in parts {
         let held = part.paths.as_slice();
-        if ask(alloc, judged, said, most, method, held)? {
+        if ask(alloc, judged, said, over, method, held)? {
             return Ok(true);
         }
     }
@@ -89,7 +91,7 @@ fn ask_sets(
 }
 
 /// The most that is said of the methods that override one: what is said where no path is held.
-fn said_at_most(judged: &Judged<'_>, floors: &Floors<'_>, method: MethodId) -> Basic
+pub(crate) fn said_at_most(judged: &Judged<'_>, floors: &Floors<'_>, method: MethodId) -> Basic
     requires { AreOverriders (program_of judged.now.program.now) judged.now.over.now }
     ensures { let rel = rel_of floors.now.sets.now in
         AtMost (joined_over rel (said_by rel floors.now.tables.items) (overriding (program_of judged.now.program.now) method) (has_path [])) result }
@@ -121,6 +123,6 @@ pub(crate) fn ask_method(
         IsPass (program_of judged.now.program.now) rel (cells_in id (method_of method.now).requires_ (subsets_of (rel id))) said.old.lines.items said.new.lines.items broken) }
 {
     let parts = parts_with(alloc, judged.sets.rel(id), method.requires_.as_slice())?;
-    let most = said_at_most(judged, &said.floors, id);
-    ask_sets(alloc, judged, said, most, id, parts.as_slice())
+    let over = said_of_overriding(alloc, judged, &said.floors, id)?;
+    ask_sets(alloc, judged, said, &over, id, parts.as_slice())
 }

@@ -1,22 +1,25 @@
 //! The checker of certificates.
-ghost use Rattle.std.specs.Prelude.{◌≡◌, ◌⊎◌, ◌<◌, ◌≤◌, ◌+◌, ◌-◌, ◌^◌, ◌∷◌, ◌++◌, List, [], true, length, slice_get, IfOk, IfErr, IfSome, MatchOption, MatchResult};
+ghost use Rattle.std.specs.Prelude.{◌≡◌, ◌⊎◌, ◌<◌, ◌≤◌, ◌+◌, ◌-◌, ◌^◌, ◌∷◌, ◌++◌, List, [], true, length, slice_get, IfOk, IfErr, IfSome, OnOk, MatchOption, MatchResult};
 ghost use Rattle.algebra.specs.Basics.{below_of};
 ghost use Rattle.algebra.specs.HeldPaths.{has_path};
 ghost use Rattle.core_program.specs.Views.{program_of};
 ghost use Rattle.rules.specs.Near.{rel_of};
 ghost use Rattle.rules.specs.Overriding.{AreOverriders};
 ghost use Rattle.refutation.specs.Lines.{LineData, certified_effect};
+ghost use Rattle.refutation.specs.Overs.{TellsOver};
 ghost use Rattle.refutation.specs.Tables.{TablesSay, said_by};
 ghost use Rattle.refutation.specs.Certificates.{AreCertificateLines, IsCertificate, bound_of, breaks, is_justified, is_placed, keeps_bound};
 ghost use Rattle.refutation.specs.Works.{IsOverWork, look_work, work_left};
 ghost use Rattle.refutation.specs.Wrongs.{AllPass, IsFirstFailing, IsWrongCertificate, justified_at, placed_at};
 
-use crate::floors::Floors;
+use crate::floors::{Floors, Table, entry};
 use crate::judged::Judged;
 use crate::line::{Blame, Line};
+use crate::looks::{Looks, forget_others, renew};
+use crate::overs::OverTable;
 use crate::short_path::{are_among, are_held, unpacked};
 use crate::up::{body_effect, said_over};
-use crate::work::{MOST_WORK, body_cost, overriding_cost, spend};
+use crate::work::{MOST_WORK, body_cost, spend};
 use algebra::Basic;
 use core_program::CoreProgram;
 use effects::Assigned;
@@ -107,40 +110,46 @@ fn unplaced(program: &CoreProgram, sets: &RelevantSets, lines: &[Line]) -> Optio
 }
 
 /// Whether a call of a line's method comes to at least the line's basic where these paths are held: by its body, else by what is said of
-/// the methods that override it, which are looked at only then. None where that would take more work than is left.
+/// the methods that override it. These are looked at only then, and where there is a table of them once for all lines of the method that
+/// stand one behind the other. None where that would take more work than is left.
 fn is_reached(
     alloc: Global,
     judged: &Judged<'_>,
-    left: &mut u64,
+    looks: &mut Looks,
     floors: &Floors<'_>,
     line: &Line,
     held: &[Path],
 ) -> Result<Option<bool>, NoMemory>
-    requires { AreOverriders (program_of judged.now.program.now) judged.now.over.now }
+    requires over { AreOverriders (program_of judged.now.program.now) judged.now.over.now }
+    requires known { let rel = rel_of floors.now.sets.now in
+        TellsOver (program_of judged.now.program.now) rel (said_by rel floors.now.tables.items) looks.old.known.method looks.old.known.table looks.old.known.whole }
+    ensures known { let rel = rel_of floors.now.sets.now in
+        OnOk result (TellsOver (program_of judged.now.program.now) rel (said_by rel floors.now.tables.items) looks.new.known.method looks.new.known.table looks.new.known.whole) }
     ensures work { let look = look_work (program_of judged.now.program.now) line.now.method in
-        IfOk result (λ told. MatchOption told (left.old < look) (λ _. left.old ≤ left.new + look)) }
+        IfOk result (λ told. MatchOption told (looks.old.left < look) (λ _. looks.old.left ≤ looks.new.left + look)) }
     ensures reached { let rel = rel_of judged.now.sets.now in floors.now.sets.now ≡ judged.now.sets.now →
         IfOk result (λ told. IfSome told (λ b. b ≡ below_of line.now.found (certified_effect (program_of judged.now.program.now) rel (said_by rel floors.now.tables.items) line.now.method (has_path held.now)))) }
 {
-    if !spend(left, body_cost(judged.program, line.method)) {
+    let method = line.method;
+    if !spend(&mut looks.left, body_cost(judged.program, method)) {
         return Ok(None);
     }
-    let body = body_effect(
-        alloc,
-        judged.program,
-        judged.sets,
-        floors,
-        line.method,
-        held,
-    )?;
+    let body = body_effect(alloc, judged.program, judged.sets, floors, method, held)?;
     if line.found.below(body) {
         return Ok(Some(true));
     }
-    let others = judged.over.of(line.method);
-    if !spend(left, overriding_cost(others)) {
+    if !renew(alloc, judged, looks, floors, method)? {
         return Ok(None);
     }
-    let reached = said_over(floors, others, held, body, line.found);
+    if looks.known.whole {
+        let others = entry(
+            floors.sets.rel(method),
+            looks.known.table.basics.as_slice(),
+            held,
+        );
+        return Ok(Some(line.found.below(body.join(others))));
+    }
+    let reached = said_over(floors, judged.over.of(method), held, body, line.found);
     Ok(Some(line.found.below(reached)))
 }
 
@@ -149,18 +158,22 @@ fn is_reached(
 fn follows(
     alloc: Global,
     judged: &Judged<'_>,
-    left: &mut u64,
+    looks: &mut Looks,
     floors: &mut Floors<'_>,
     line: &Line,
 ) -> Result<Option<bool>, NoMemory>
     requires there { line.now.method < length floors.old.tables.items }
     requires over { AreOverriders (program_of judged.now.program.now) judged.now.over.now }
+    requires known { let rel = rel_of floors.old.sets.now in
+        TellsOver (program_of judged.now.program.now) rel (said_by rel floors.old.tables.items) looks.old.known.method looks.old.known.table looks.old.known.whole }
+    ensures known { let rel = rel_of floors.new.sets.now in
+        OnOk result (TellsOver (program_of judged.now.program.now) rel (said_by rel floors.new.tables.items) looks.new.known.method looks.new.known.table looks.new.known.whole) }
     ensures sets { floors.new.sets.now ≡ floors.old.sets.now }
     ensures size { length floors.new.tables.items ≡ length floors.old.tables.items }
-    ensures work { let looks = look_work (program_of judged.now.program.now) in let all = length floors.old.tables.items in
+    ensures work { let look = look_work (program_of judged.now.program.now) in let all = length floors.old.tables.items in
         (before : List LineData) → TablesSay (rel_of floors.old.sets.now) floors.old.tables.items before →
-        IfOk result (λ told. MatchOption told (left.old < work_left looks floors.old.tables.items all)
-        (λ b. b ≡ true → left.old + work_left looks floors.new.tables.items all ≤ left.new + work_left looks floors.old.tables.items all)) }
+        IfOk result (λ told. MatchOption told (looks.old.left < work_left look floors.old.tables.items all)
+        (λ b. b ≡ true → looks.old.left + work_left look floors.new.tables.items all ≤ looks.new.left + work_left look floors.old.tables.items all)) }
     ensures follows { let P = program_of judged.now.program.now in let rel = rel_of judged.now.sets.now in
         (before : List LineData) → floors.old.sets.now ≡ judged.now.sets.now → TablesSay rel floors.old.tables.items before → AreCertificateLines P rel before → is_placed P rel line.now ≡ true →
         IfOk result (λ told. IfSome told (λ b. (b ≡ is_justified P rel before line.now) × (b ≡ true → TablesSay rel floors.new.tables.items (before ++ line.now ∷ [])))) }
@@ -170,12 +183,13 @@ fn follows(
     if line.found.below(floors.at(line.method, held)) {
         return Ok(Some(true));
     }
-    let Some(reached) = is_reached(alloc, judged, left, floors, line, held)? else {
+    let Some(reached) = is_reached(alloc, judged, looks, floors, line, held)? else {
         return Ok(None);
     };
     if !reached {
         return Ok(Some(false));
     }
+    forget_others(&mut looks.known, line.method);
     floors.add(line.method, held, line.found);
     Ok(Some(true))
 }
@@ -199,10 +213,19 @@ fn unjustified(
         sets,
         over: &over,
     };
-    let mut left = MOST_WORK;
     let mut floors = Floors::new(alloc, sets, program.methods().len())?;
+    let mut looks = Looks {
+        left: MOST_WORK,
+        known: OverTable {
+            method: MethodId(0),
+            table: Table {
+                basics: Vec::new(alloc),
+            },
+            whole: false,
+        },
+    };
     for at in 0..lines.len() {
-        let Some(passes) = follows(alloc, &judged, &mut left, &mut floors, &lines[at])? else {
+        let Some(passes) = follows(alloc, &judged, &mut looks, &mut floors, &lines[at])? else {
             return Err(BlameWrong::Work);
         };
         if !passes {
@@ -213,8 +236,8 @@ fn unjustified(
 }
 
 /// Whether lines are a certificate of refusal of a program with these relevant sets: then no assignment is admissible. A line that
-/// is said already costs a look at its paths, any other the size of its method's body, and one that the body doesn't reach the number of
-/// methods that override it, up to a stated amount of work.
+/// is said already costs a look at its paths, any other the size of its method's body. The methods that override it are counted too at
+/// the first of several lines of a method that its body doesn't reach, up to a stated amount of work.
 pub fn check_blame(
     alloc: Global,
     program: &CoreProgram,

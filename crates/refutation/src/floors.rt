@@ -52,7 +52,7 @@ impl Assigned for Floors<'_> {
 }
 
 /// The table of a method; empty where there is no such method.
-fn table_at(tables: &[Table], method: MethodId) -> &[Basic]
+pub(crate) fn table_at(tables: &[Table], method: MethodId) -> &[Basic]
     ensures { result.now ≡ row_at tables.now method }
 {
     match tables.get(method.0 as usize) {
@@ -62,7 +62,7 @@ fn table_at(tables: &[Table], method: MethodId) -> &[Basic]
 }
 
 /// The entry of a table where these paths are held.
-fn entry(rel: &[Path], table: &[Basic], held: &[Path]) -> Basic
+pub(crate) fn entry(rel: &[Path], table: &[Basic], held: &[Path]) -> Basic
     ensures { result ≡ table_entry rel.now table.now (has_path held.now) }
 {
     match rel.split_first() {
@@ -72,7 +72,7 @@ fn entry(rel: &[Path], table: &[Basic], held: &[Path]) -> Basic
 }
 
 /// The table with const at each part of these paths.
-fn consts(alloc: Global, rel: &[Path]) -> Result<Vec<Basic>, NoMemory>
+pub(crate) fn consts(alloc: Global, rel: &[Path]) -> Result<Vec<Basic>, NoMemory>
     ensures { IfOk result (λ table. table.items ≡ consts rel.now) }
 {
     let Some((_, rest)) = rel.split_first() else {

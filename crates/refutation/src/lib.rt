@@ -10,6 +10,8 @@ mod floors;
 mod judged;
 mod laws;
 mod line;
+mod looks;
+mod overs;
 mod parts;
 mod passes;
 mod said;

@@ -6,11 +6,13 @@ ghost use Rattle.core_program.specs.Views.{program_of};
 ghost use Rattle.rules.specs.Near.{rel_of};
 ghost use Rattle.rules.specs.Overriding.{AreOverriders};
 ghost use Rattle.rules.specs.Rules.{AtMost};
-ghost use Rattle.refutation.specs.Lines.{overriding, body_effect, joined_over, certified_effect};
+ghost use Rattle.refutation.specs.Lines.{body_effect, joined_over, certified_effect};
+ghost use Rattle.refutation.specs.Overs.{IsSaidOver};
 ghost use Rattle.refutation.specs.Tables.{said_by};
 
-use crate::floors::Floors;
+use crate::floors::{Floors, entry};
 use crate::judged::Judged;
+use crate::overs::OverSaid;
 use algebra::Basic;
 use core_program::CoreProgram;
 use effects::{Assigned, stmt_effect};
@@ -61,21 +63,26 @@ pub(crate) fn said_over(
 }
 
 /// What a call of a method of the program comes to where these paths are held: its body, or what is said of the methods that override
-/// it. These are looked at only where the body comes to less than what is said of them at most.
+/// it. These are looked at one by one only where there is no table of what is said of them all, and only where the body comes to less than
+/// what is said of them at most.
 pub(crate) fn run_effect(
     alloc: Global,
     judged: &Judged<'_>,
     floors: &Floors<'_>,
-    most: Basic,
+    over: &OverSaid,
     method: MethodId,
     held: &[Path],
 ) -> Result<Basic, NoMemory>
     requires over { AreOverriders (program_of judged.now.program.now) judged.now.over.now }
     requires same { floors.now.sets.now ≡ judged.now.sets.now }
-    requires most { let rel = rel_of floors.now.sets.now in AtMost (joined_over rel (said_by rel floors.now.tables.items) (overriding (program_of judged.now.program.now) method) (has_path held.now)) most }
+    requires said { let rel = rel_of floors.now.sets.now in IsSaidOver (program_of judged.now.program.now) rel (said_by rel floors.now.tables.items) method over.now.table over.now.whole over.now.most }
     ensures { IfOk result (λ b.
         b ≡ certified_effect (program_of judged.now.program.now) (rel_of judged.now.sets.now) (said_by (rel_of floors.now.sets.now) floors.now.tables.items) method (has_path held.now)) }
 {
     let body = body_effect(alloc, judged.program, judged.sets, floors, method, held)?;
-    Ok(said_over(floors, judged.over.of(method), held, body, most))
+    if over.whole {
+        let others = entry(floors.sets.rel(method), over.table.basics.as_slice(), held);
+        return Ok(body.join(others));
+    }
+    Ok(said_over(floors, judged.over.of(method), held, body, over.most))
 }

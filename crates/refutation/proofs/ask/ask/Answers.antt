@@ -1,17 +1,16 @@
 -- What is known already adds nothing, and what is new its line.
 use Rattle.std.proofs.Common.{◌≡◌, ◌∷◌, ◌++◌, [], false, rules, refl, ap, sym, ◌∙◌}
 use Rattle.std.specs.Prelude.{not}
-use Rattle.algebra.specs.HeldPaths.{has_path}
 use Rattle.core_program.specs.Views.{program_of}
 use Rattle.refutation.specs.Lines.{LineData}
-use Rattle.refutation.proofs.MakerLemmas.{most_said, ask_known, ask_added, agrees_added}
+use Rattle.refutation.proofs.MakerLemmas.{said_kept, ask_known, ask_added, agrees_added}
 use Rattle.refutation.proofs.WaitLemmas.{adds_none, adds_one}
 use Rattle.refutation.proofs.ask.ask.Goals as goal
 
-pub run_effect-requires-clause-most : goal.run_effect-requires-clause-most
-run_effect-requires-clause-most c =
-    most_said (program_of c.args.judged.now.program.now) c.args.judged.now.sets.now c.args.said.now.floors.sets.now c.args.said.now.floors.tables.items c.args.said.now.lines.items c.requires.agrees c.args.method c.args.most
-    (has_path c.args.held.now) c.requires.most
+pub run_effect-requires-clause-said : goal.run_effect-requires-clause-said
+run_effect-requires-clause-said c =
+    said_kept (program_of c.args.judged.now.program.now) c.args.judged.now.sets.now c.args.said.now.floors.sets.now c.args.said.now.floors.tables.items c.args.said.now.lines.items c.requires.agrees c.args.method
+    c.args.over.now.table c.args.over.now.whole c.args.over.now.most c.requires.said
 
 pub returns-then-below-clause-asked : goal.returns-then-below-clause-asked
 returns-then-below-clause-asked c =

@@ -8,12 +8,13 @@ use Rattle.core_program.specs.Views.{program_of}
 use Rattle.rules.specs.Near.{rel_of}
 use Rattle.refutation.specs.Ends.{cells_at, continued}
 use Rattle.refutation.proofs.MakerLemmas.{sets_step}
-use Rattle.refutation.proofs.WaitLemmas.{adds_both, most_stays}
+use Rattle.refutation.proofs.WaitLemmas.{adds_both, over_stays}
 use Rattle.refutation.proofs.ask.ask_sets.Goals as goal
 
-pub ask-requires-clause-most : goal.ask-requires-clause-most
-ask-requires-clause-most c =
-    most_stays (program_of c.args.judged.now.program.now) (rel_of c.args.judged.now.sets.now) c.args.method c.args.most c.args.said.now.lines.items c.loop-part.said.lines.items c.loop-part.invariant.adds c.requires.most
+pub ask-requires-clause-said : goal.ask-requires-clause-said
+ask-requires-clause-said c =
+    over_stays (program_of c.args.judged.now.program.now) (rel_of c.args.judged.now.sets.now) c.args.method c.args.over.now.table c.args.over.now.whole c.args.over.now.most c.args.said.now.lines.items c.loop-part.said.lines.items
+    c.loop-part.invariant.adds c.requires.said
 
 pub loop-part-preserved : goal.loop-part-preserved
 loop-part-preserved c =

@@ -6,9 +6,11 @@ use Rattle.core_program.specs.Views.{program_of}
 use Rattle.rules.specs.Near.{rel_of}
 use Rattle.refutation.specs.Lines.{LineData, certified_effect}
 use Rattle.refutation.specs.Tables.{said_by, IsRaised, TablesSay}
+use Rattle.refutation.specs.Overs.{TellsOver}
 use Rattle.refutation.specs.Works.{look_work}
 use Rattle.refutation.proofs.CheckLemmas.{follows_known, follows_not, follows_new}
 use Rattle.refutation.proofs.Reached.{told_is, told_spent, told_none}
+use Rattle.refutation.proofs.OverTables.{tells_still}
 use Rattle.refutation.proofs.Rooms.{not_said, look_within, look_taken}
 use Rattle.refutation.proofs.check.follows.Goals as goal
 
@@ -85,3 +87,16 @@ returns-clause-work c = λ before says e.
     let taken = look_taken looks rel tables before says c.args.line.now c.requires.there new c.add.new.self.tables.items raised in
     let spent = told_spent _ _ c.in_ok-reached.field-0 c.in-Some.reached c.in-Some.is c.in_ok-reached.ensures.work in
     omega (arith, taken, spent)
+
+pub returns-clause-known : goal.returns-clause-known
+returns-clause-known c =
+    let P = program_of c.args.judged.now.program.now in
+    let rel = rel_of c.args.floors.now.sets.now in
+    let tables = c.args.floors.now.tables.items in
+    let now = c.add.new.self.tables.items in
+    let known = c.is_reached.new.looks.known in
+    let still = c.forget_others.new.known in
+    let l : LineData = record { method = c.line.inside.method; found = c.line.inside.found; held = c.as_slice-held.result.now } in
+    subst (λ s. TellsOver P (rel_of s) (said_by (rel_of s) now) still.method still.table still.whole) (sym c.add.ensures.sets)
+    (tells_still P rel tables now l known.method still.method known.table still.table known.whole still.whole c.add.ensures.raised
+    c.forget_others.ensures.whole c.forget_others.ensures.its c.forget_others.ensures.method c.forget_others.ensures.table c.in_ok-reached.ensures.known)

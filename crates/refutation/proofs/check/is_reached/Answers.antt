@@ -5,10 +5,10 @@ use Rattle.algebra.specs.HeldPaths.{has_path}
 use Rattle.core_program.specs.Views.{program_of}
 use Rattle.rules.specs.Near.{rel_of}
 use Rattle.refutation.specs.Lines.{LineData, overriding, body_effect, joined_over, certified_effect}
-use Rattle.refutation.specs.Tables.{said_by}
+use Rattle.refutation.specs.Tables.{said_by, table_entry}
 use Rattle.refutation.specs.Works.{body_work, look_work}
+use Rattle.refutation.specs.declared.looks.Looks.{Looks}
 use Rattle.refutation.proofs.Reached.{run_with, body_reaches}
-use Rattle.refutation.proofs.Rooms.{row_few}
 use Rattle.refutation.proofs.check.is_reached.Goals as goal
 
 pub returns-then-not-spend-clause-work : goal.returns-then-not-spend-clause-work
@@ -29,16 +29,25 @@ returns-then-below-clause-work c =
     let some : c.spend.result ≡ true = search rules in
     omega (arith, same, look, c.body_cost.ensures, c.spend.ensures.spent some)
 
-pub returns-then-not-spend-2-clause-work : goal.returns-then-not-spend-2-clause-work
-returns-then-not-spend-2-clause-work c =
+pub returns-then-not-branch-clause-work : goal.returns-then-not-branch-clause-work
+returns-then-not-branch-clause-work c =
     let P = program_of c.args.judged.now.program.now in
     let m = c.line.inside.method in
     let same = ap (look_work P) (ap (λ (x : LineData). x.method) c.line.view_is) in
     let look : look_work P m ≡ body_work (slice_get P.methods m) + 8 * length (overriding P m) = refl in
-    let few = row_few P c.args.judged.now.over.now m c.of-others.result.now c.requires c.of-others.ensures in
     let some : c.spend.result ≡ true = search rules in
-    let none : c.spend-2.result ≡ false = search rules in
-    omega (arith, same, look, few, c.body_cost.ensures, c.overriding_cost.ensures, c.spend.ensures.spent some, c.spend-2.ensures.over none)
+    let none : c.in_ok-renew.field-0 ≡ false = search rules in
+    omega (arith, same, look, c.body_cost.ensures, c.spend.ensures.spent some, c.in_ok-renew.ensures.less none)
+
+pub returns-then-looks-clause-work : goal.returns-then-looks-clause-work
+returns-then-looks-clause-work c =
+    let P = program_of c.args.judged.now.program.now in
+    let m = c.line.inside.method in
+    let same = ap (look_work P) (ap (λ (x : LineData). x.method) c.line.view_is) in
+    let look : look_work P m ≡ body_work (slice_get P.methods m) + 8 * length (overriding P m) = refl in
+    let some : c.spend.result ≡ true = search rules in
+    let more : c.in_ok-renew.field-0 ≡ true = search rules in
+    omega (arith, same, look, c.body_cost.ensures, c.spend.ensures.spent some, c.in_ok-renew.ensures.spent more)
 
 pub returns-clause-work : goal.returns-clause-work
 returns-clause-work c =
@@ -46,10 +55,9 @@ returns-clause-work c =
     let m = c.line.inside.method in
     let same = ap (look_work P) (ap (λ (x : LineData). x.method) c.line.view_is) in
     let look : look_work P m ≡ body_work (slice_get P.methods m) + 8 * length (overriding P m) = refl in
-    let few = row_few P c.args.judged.now.over.now m c.of-others.result.now c.requires c.of-others.ensures in
     let some : c.spend.result ≡ true = search rules in
-    let more : c.spend-2.result ≡ true = search rules in
-    omega (arith, same, look, few, c.body_cost.ensures, c.overriding_cost.ensures, c.spend.ensures.spent some, c.spend-2.ensures.spent more)
+    let more : c.in_ok-renew.field-0 ≡ true = search rules in
+    omega (arith, same, look, c.body_cost.ensures, c.spend.ensures.spent some, c.in_ok-renew.ensures.spent more)
 
 pub returns-then-below-clause-reached : goal.returns-then-below-clause-reached
 returns-then-below-clause-reached c = λ same.
@@ -71,12 +79,35 @@ returns-clause-reached c = λ same.
     let tables = c.args.floors.now.tables.items in
     let H = has_path c.args.held.now in
     let m = c.line.inside.method in
-    let methods = c.of-others.result.now in
+    let methods = c.of.result.now in
     let body = c.in_ok-body.body in
     let method = ap (λ (x : LineData). x.method) c.line.view_is in
     let found = ap (λ (x : LineData). x.found) c.line.view_is in
     let said = c.in_ok-body.ensures ∙ (λ i. body_effect P rel (said_by (rel_of (same i)) tables) (slice_get P.methods m) H) in
     c.below-2.ensures ∙ c.said_over-reached.ensures.reached
     ∙ (λ i. below_of c.line.inside.found (join_of body (joined_over (rel_of (same i)) (said_by (rel_of (same i)) tables) methods H)))
-    ∙ ap (below_of c.line.inside.found) (run_with P rel (said_by rel tables) H c.args.judged.now.over.now m methods body c.requires c.of-others.ensures said)
+    ∙ ap (below_of c.line.inside.found) (run_with P rel (said_by rel tables) H c.args.judged.now.over.now m methods body c.requires.over c.of.ensures said)
+    ∙ (λ i. below_of (found i) (certified_effect P rel (said_by rel tables) (method i) H))
+
+pub returns-then-looks-clause-reached : goal.returns-then-looks-clause-reached
+returns-then-looks-clause-reached c = λ same.
+    let P = program_of c.args.judged.now.program.now in
+    let rel = rel_of c.args.judged.now.sets.now in
+    let kept = rel_of c.args.floors.now.sets.now in
+    let tables = c.args.floors.now.tables.items in
+    let H = has_path c.args.held.now in
+    let m = c.line.inside.method in
+    let body = c.in_ok-body.body in
+    let known = c.renew.new.looks.known in
+    let method = ap (λ (x : LineData). x.method) c.line.view_is in
+    let found = ap (λ (x : LineData). x.found) c.line.view_is in
+    let whole : known.whole ≡ true = search rules in
+    let more : c.in_ok-renew.field-0 ≡ true = search rules in
+    let tells = c.in_ok-renew.ensures.known whole H in
+    let its = c.in_ok-renew.ensures.its more in
+    let table = c.as_slice.ensures.value ∙ ap (λ (x : Looks). x.known.table) c.looks.view_is in
+    let others = c.entry-others.ensures ∙ (λ i. table_entry ((c.rel.ensures ∙ ap kept (sym its)) i) (table i) H) ∙ tells
+    ∙ (λ i. joined_over (rel_of (same i)) (said_by (rel_of (same i)) tables) (overriding P (its i)) H) in
+    let said = c.in_ok-body.ensures ∙ (λ i. body_effect P rel (said_by (rel_of (same i)) tables) (slice_get P.methods m) H) in
+    c.below-then-looks.ensures ∙ ap (below_of c.line.inside.found) (c.join.ensures ∙ (λ i. join_of (said i) (others i)))
     ∙ (λ i. below_of (found i) (certified_effect P rel (said_by rel tables) (method i) H))

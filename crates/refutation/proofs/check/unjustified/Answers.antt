@@ -19,6 +19,7 @@ loop-at-init c =
       same = c.in_ok-floors.ensures.sets;
       size = size;
       says = c.in_ok-floors.ensures.says;
+      known = λ e. absurd (let f : false ≡ true = e in cc);
       left = left_start (look_work P) (rel_of c.args.sets.now) c.in_ok-floors.floors.tables.items (length P.methods) size c.in_ok-floors.ensures.says;
       before = pass_none (justified_at P (rel_of c.args.sets.now) c.args.lines.now) c.args.lines.now;
     }
@@ -48,7 +49,7 @@ returns-in_default-clause-over c =
     let tables = c.loop-at.floors.tables.items in
     let says = subst (λ s. TablesSay (rel_of s) tables (take c.loop-at.at c.args.lines.now)) (sym before.same) before.says in
     let less = none_spent _ _ c.in_ok-passes.field-0 c.in_default.is (c.in_ok-passes.ensures.work _ says) in
-    inr (refl, left_none P rel tables c.loop-at.left before.size before.left less)
+    inr (refl, left_none P rel tables c.loop-at.looks.left before.size before.left less)
 
 pub loop-at-preserved : goal.loop-at-preserved
 loop-at-preserved c =
@@ -67,7 +68,8 @@ loop-at-preserved c =
       same = c.follows.ensures.sets ∙ before.same;
       size = c.follows.ensures.size ∙ before.size;
       says = says_next rel c.follows.new.floors.tables.items lines c.loop-at.at l c.loop-at-test.true c.index-lines-at.is (told.1 passes);
-      left = left_kept (look_work P) rel tables c.follows.new.floors.tables.items c.loop-at.left c.follows.new.left (length P.methods) before.size before.left spent;
+      known = c.in_ok-passes.ensures.known;
+      left = left_kept (look_work P) rel tables c.follows.new.floors.tables.items c.loop-at.looks.left c.follows.new.looks.left (length P.methods) before.size before.left spent;
       before = pass_more (justified_at P rel lines) lines c.loop-at.at l c.loop-at-test.true c.index-lines-at.is (sym told.0 ∙ passes) before.before;
     }
 

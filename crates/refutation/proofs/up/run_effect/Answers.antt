@@ -1,15 +1,27 @@
--- The body, and what is said of the methods that override: no more than at most.
-use Rattle.std.proofs.Common.{ap, sym, subst, ◌∙◌}
+-- The body, and what is said of the methods that override: by the table of them all, or no more than at most.
+use Rattle.std.proofs.Common.{◌≡◌, true, rules, ap, ◌∙◌}
 use Rattle.algebra.specs.Basics.{join_of}
 use Rattle.algebra.specs.HeldPaths.{has_path}
 use Rattle.core_program.specs.Views.{program_of}
 use Rattle.rules.specs.Near.{rel_of}
-use Rattle.rules.specs.Rules.{AtMost}
-use Rattle.refutation.specs.Lines.{joined_over}
-use Rattle.refutation.specs.Tables.{said_by}
+use Rattle.refutation.specs.Lines.{joined_over, overriding}
+use Rattle.refutation.specs.Tables.{said_by, table_entry}
+use Rattle.refutation.specs.declared.overs.OverSaid.{OverSaid}
 use Rattle.refutation.proofs.Reached.{run_with}
+use Rattle.refutation.proofs.OverTables.{low_both}
 use Rattle.refutation.proofs.RowLemmas.{row_same}
 use Rattle.refutation.proofs.up.run_effect.Goals as goal
+
+pub returns-then-over-whole : goal.returns-then-over-whole
+returns-then-over-whole c =
+    let A = said_by (rel_of c.args.floors.now.sets.now) c.args.floors.now.tables.items in
+    let m = c.args.method in
+    let H = has_path c.args.held.now in
+    let whole : c.args.over.now.whole ≡ true = search rules in
+    let said = c.requires.said.each whole H ∙ (λ i. joined_over (rel_of (c.requires.same i)) A (overriding (program_of c.args.judged.now.program.now) m) H) in
+    let table = c.as_slice.ensures.value ∙ ap (λ (o : OverSaid). o.table) c.over.view_is in
+    let others = c.entry-others.ensures ∙ (λ i. table_entry (c.rel.ensures i) (table i) H) ∙ said in
+    c.join.ensures ∙ (λ i. join_of (c.in_ok-body.ensures i) (others i))
 
 pub returns : goal.returns
 returns c =
@@ -21,6 +33,7 @@ returns c =
     let rows = c.args.judged.now.over.now in
     let methods = c.of.result.now in
     let body = c.in_ok-body.body in
-    let low = subst (λ b. AtMost b c.args.most) (sym (ap (λ ns. joined_over kept A ns H) c.of.ensures ∙ row_same kept A H P rows c.args.method c.requires.over)) c.requires.most in
+    let row = ap (λ ns. joined_over kept A ns H) c.of.ensures ∙ row_same kept A H P rows c.args.method c.requires.over in
+    let low = low_both (joined_over kept A methods H) (joined_over kept A (overriding P c.args.method) H) _ c.args.over.now.most row (ap (λ (o : OverSaid). o.most) c.over.view_is) (c.requires.said.low H) in
     c.said_over.ensures.whole low ∙ (λ i. join_of body (joined_over (rel_of (c.requires.same i)) A methods H))
     ∙ run_with P rel A H rows c.args.method methods body c.requires.over c.of.ensures c.in_ok-body.ensures

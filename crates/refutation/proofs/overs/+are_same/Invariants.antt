@@ -1,0 +1,6 @@
+use Rattle.std.proofs.Common.{length}
+use Rattle.refutation.proofs.overs.+are_same.Given as goal
+
+-- the list gets shorter
+abbrev pub decreases-are_same : goal.decreases-are_same
+decreases-are_same l = length l.paths.now

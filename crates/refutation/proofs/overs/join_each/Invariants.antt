@@ -1,0 +1,7 @@
+use Rattle.std.proofs.Common.{◌≡◌}
+use Rattle.refutation.proofs.OverTables.{joined_first}
+use Rattle.refutation.proofs.overs.join_each.Given as goal
+
+-- so many basics are joined
+abbrev pub invariant-loop-at : goal.invariant-loop-at
+invariant-loop-at l = l.table ≡ joined_first l.at l.fn.table l.other

@@ -1,0 +1,33 @@
+-- What is said of all methods that override one, kept in one table.
+use Rattle.std.specs.Prelude.{◌≡◌, ℕ, ◌&&◌, Bool, true, false, List, [], ◌∷◌}
+use Rattle.paths.specs.Paths.{PathData, path_eq}
+use Rattle.algebra.specs.declared.basic.Basic.{Basic}
+use Rattle.algebra.specs.Basics.{join_of}
+use Rattle.algebra.specs.HeldPaths.{Held}
+use Rattle.core_program.specs.Core.{Program}
+use Rattle.rules.specs.Effect.{Assignment}
+use Rattle.rules.specs.Rules.{AtMost}
+use Rattle.refutation.specs.Lines.{overriding, joined_over}
+use Rattle.refutation.specs.Tables.{table_entry}
+
+-- whether two lists have the same paths in the same order
+abbrev pub same_paths : List PathData → List PathData → Bool
+same_paths [] [] = true
+same_paths [] (q ∷ qs) = false
+same_paths (p ∷ ps) [] = false
+same_paths (p ∷ ps) (q ∷ qs) = path_eq p q && same_paths ps qs
+
+-- each basic of a table, joined with the one at its place in another
+abbrev pub joined_each : List Basic → List Basic → List Basic
+joined_each [] ys = []
+joined_each (x ∷ xs) [] = x ∷ xs
+joined_each (x ∷ xs) (y ∷ ys) = join_of x y ∷ joined_each xs ys
+
+-- where a table is whole, it tells of each set what an assignment says of the methods that override one
+abbrev pub TellsOver : Program → (rel : ℕ → List PathData) → Assignment → ℕ → (table : List Basic) → (whole : Bool) → Type 0
+TellsOver P rel A m table whole = whole ≡ true → (H : Held) → table_entry (rel m) table H ≡ joined_over rel A (overriding P m) H
+
+-- what an assignment says of the methods that override one: the table tells it of each set where it is whole; and it is at most a basic
+pub record IsSaidOver (P : Program) (rel : ℕ → List PathData) (A : Assignment) (m : ℕ) (table : List Basic) (whole : Bool) (most : Basic) : Type 0 where
+  pub each : TellsOver P rel A m table whole
+  pub low : (H : Held) → AtMost (joined_over rel A (overriding P m) H) most
