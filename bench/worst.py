@@ -8,6 +8,7 @@ overriding  classes in a line, each of which overrides the one method; it calls 
 reverse     the same, where the last class stands first in the source
 rising      the same without the call; the last one alone is compound, and the others come to be so by it
 late        the same, where the last one calls that method; a method that calls the first one shows it
+mixed       late, where the called method has a path less, and one in the middle locks that one
 empty       classes in a line, each of which overrides an empty method
 names       the same with three methods
 pairs       classes that inherit many methods, and override none
@@ -34,12 +35,12 @@ FIELDS = "abcdefg"
 Family = Callable[[int], str]
 
 
-def locked() -> str:
-    """A class with a method that locks each of its fields and then itself."""
+def locked(names: str = FIELDS) -> str:
+    """A class with a method that locks these of its fields and then itself."""
     fields = "".join(f"final L {name};" for name in FIELDS)
     sets = "".join(f"this.{name}={name};" for name in FIELDS)
     params = ",".join(f"L {name}" for name in FIELDS)
-    locks = "".join(f"synchronized(this.{name}){{}}" for name in FIELDS)
+    locks = "".join(f"synchronized(this.{name}){{}}" for name in names)
     return f"class L{{}}class X{{{fields}X({params}){{{sets}}}void g(){{{locks}synchronized(this){{}}}}}}\n"
 
 
@@ -61,10 +62,19 @@ def rising(count: int) -> str:
     return MAIN + "".join(heirs(count, lambda k: "int u;" * (k == 0) + f"void f(){{{last * (k == count - 1)}}}"))
 
 
-def late(count: int) -> str:
-    line = heirs(count, lambda k: f"void f(final X x){{{'x.g();' * (k == count - 1)}}}")
+def called_last(locks: str, bodies: dict[int, str], count: int) -> str:
+    """Classes in a line with these bodies, and a method that calls the first one's twice."""
+    line = heirs(count, lambda k: f"void f(final X x){{{bodies.get(k, '')}}}")
     last = "class Last{atomic void last(final X x,final c0 y){y.f(x);y.f(x);}}\n"
-    return MAIN + locked() + "".join(line) + last
+    return MAIN + locked(locks) + "".join(line) + last
+
+
+def late(count: int) -> str:
+    return called_last(FIELDS, {count - 1: "x.g();"}, count)
+
+
+def mixed(count: int) -> str:
+    return called_last(FIELDS[:-1], {count // 2: "synchronized(x.g){}", count - 1: "x.g();"}, count)
 
 
 def empty(count: int) -> str:
@@ -90,6 +100,7 @@ FAMILIES: dict[str, Family] = {
     "reverse": reverse,
     "rising": rising,
     "late": late,
+    "mixed": mixed,
     "empty": empty,
     "names": names,
     "pairs": pairs,
