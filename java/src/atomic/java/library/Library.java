@@ -12,10 +12,8 @@ import java.nio.file.Files;
 import java.nio.file.Path;
 import java.util.ArrayList;
 import java.util.HashMap;
-import java.util.LinkedHashSet;
 import java.util.List;
 import java.util.Map;
-import java.util.Set;
 import javax.lang.model.element.ExecutableElement;
 import javax.lang.model.element.TypeElement;
 import javax.lang.model.type.DeclaredType;
@@ -138,7 +136,7 @@ public final class Library {
         return members.values().stream().anyMatch(choice -> choice.kind() == one || choice.kind() == other);
     }
 
-    /** The names of a type and of those above it, nearer ones first. */
+    /** The names of a type and of those above it, each before those above it: a row of its own speaks before theirs. */
     private List<String> names(TypeMirror type) {
         TypeMirror erased = types.erasure(type);
         if (!(erased instanceof DeclaredType declared)) {
@@ -146,23 +144,32 @@ public final class Library {
         }
         String own = ((TypeElement) declared.asElement()).getQualifiedName().toString();
         if (!above.containsKey(own)) {
-            Set<String> all = new LinkedHashSet<>();
-            List<TypeMirror> next = new ArrayList<>(List.of(erased));
-            while (!next.isEmpty()) {
-                List<TypeMirror> further = new ArrayList<>();
-                for (TypeMirror each : next) {
-                    if (each instanceof DeclaredType one
-                            && all.add(((TypeElement) one.asElement()).getQualifiedName().toString())) {
-                        further.addAll(types.directSupertypes(each));
-                    }
-                }
-                next = further;
+            List<TypeMirror> all = new ArrayList<>(List.of(erased));
+            for (int k = 0; k < all.size(); k++) {
+                types.directSupertypes(all.get(k)).stream().map(types::erasure)
+                    .filter(each -> all.stream().noneMatch(other -> types.isSameType(each, other))).forEach(all::add);
             }
-            all.remove("java.lang.Object");
-            List<String> ordered = new ArrayList<>(all);
+            List<String> ordered = new ArrayList<>();
+            inOrder(all).forEach(each -> ordered.add(((TypeElement) each.asElement()).getQualifiedName().toString()));
+            ordered.remove("java.lang.Object");
             ordered.add("java.lang.Object");
             above.put(own, ordered);
         }
         return above.get(own);
+    }
+
+    /** Each type before those above it: a tree map is a sorted map before it is a map, however far away either is. */
+    private List<DeclaredType> inOrder(List<TypeMirror> all) {
+        List<DeclaredType> ordered = new ArrayList<>();
+        for (TypeMirror each : all) {
+            if (each instanceof DeclaredType one) {
+                int at = 0;
+                while (at < ordered.size() && !types.isSubtype(one, ordered.get(at))) {
+                    at++;
+                }
+                ordered.add(at, one);
+            }
+        }
+        return ordered;
     }
 }

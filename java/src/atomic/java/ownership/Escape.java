@@ -43,6 +43,10 @@ public final class Escape {
     /** What makes other threads run a pipeline. */
     private static final Set<String> PARALLEL = Set.of("parallel", "parallelStream", "parallelSetAll", "parallelPrefix");
 
+    /** What only makes texts, and keeps nothing that it is given. No class is below these. */
+    private static final Set<String> TEXTS = Set.of("java.lang.StringBuilder", "java.lang.StringBuffer",
+        "java.util.StringJoiner");
+
     /** The object doesn't get away. */
     public static final long NEVER = Long.MAX_VALUE;
 
@@ -81,7 +85,7 @@ public final class Escape {
         } else if (parent instanceof MethodInvocationTree call) {
             return asArgument(call, use);
         } else if (parent instanceof NewClassTree made) {
-            return isBorrowed(made) ? NEVER : attribution.start(made);
+            return !isBorrowed(made) ? attribution.start(made) : showsEntries(use) ? from(made) : NEVER;
         } else if (parent instanceof AssignmentTree assignment) {
             boolean given = attribution.parent(assignment).getKind() != Tree.Kind.EXPRESSION_STATEMENT;
             long further = given ? from(assignment) : NEVER;
@@ -145,8 +149,14 @@ public final class Escape {
         return Math.min(asEntry(call), switch (choice.kind()) {
             case VIEW, PIPE -> from(call);
             case UNKNOWN -> unknown(call);
-            default -> results.isEntry(call) ? from(call) : NEVER;
+            default -> results.isEntry(call) || showsEntries(select.getExpression())
+                && attribution.type(call) instanceof ArrayType ? from(call) : NEVER;
         });
+    }
+
+    /** Whether an object has a map's entries, or is one: a copy of it has the same entries, which are still parts of the map. */
+    private boolean showsEntries(Tree tree) {
+        return results.mentionsEntry(attribution.type(tree));
     }
 
     /** A function of a map's entries, which are parts of the map, may let one get away. */
@@ -184,14 +194,17 @@ public final class Escape {
         Choice choice = choose(call.getMethodSelect(), symbol);
         boolean copies = symbol.getSimpleName().toString().endsWith("All") && choice.kind() != Choice.Kind.UNKNOWN;
         if (copies) {
+            return showsEntries(use) ? attribution.start(call) : NEVER;
+        } else if (TEXTS.contains(symbol.getEnclosingElement().toString())) {
             return NEVER;
         }
-        return switch (choice.kind()) {
+        long copied = showsEntries(use) && !results.isValue(call) ? from(call) : NEVER;
+        return Math.min(copied, switch (choice.kind()) {
             case VIEW -> from(call);
             case PURE, ASSUMED, READS, RUN -> choice.keeps() ? attribution.start(call) : given(call, use);
             case UNKNOWN -> unknown(call);
             default -> attribution.start(call);
-        };
+        });
     }
 
     /** What a call that keeps nothing was given may come back as what it gives, or within that. */

@@ -64,6 +64,11 @@ final class Results {
             && !attribution.element(call).getEnclosingElement().toString().equals("java.util.TreeMap");
     }
 
+    /** Whether what a call gives is a mere value. */
+    boolean isValue(MethodInvocationTree call) {
+        return isValue(attribution.type(call));
+    }
+
     /** Whether a type is a map's entry, or has one among its parts. */
     boolean mentionsEntry(TypeMirror type) {
         return type instanceof DeclaredType declared && (name(declared).equals("java.util.Map.Entry")

@@ -56,7 +56,7 @@ final class Arguments {
         boolean puts = called.choice().kind() == Choice.Kind.WRITES || called.choice().kind() == Choice.Kind.STEP;
         boolean whole = called.shown().endsWith("All") || called.shown().endsWith("drainTo");
         if (type == null || type.getKind() == TypeKind.NULL || services.immutable(argument) != null
-                || puts && !whole && !(value instanceof Value.Owned)) {
+                || puts && !whole && !Comparisons.joins(called.shown()) && !(value instanceof Value.Owned)) {
             return;
         } else if (services.program().library().hasContents(type)) {
             new Contents(services, body).call(value, fills, called.at(), called.shown());

@@ -1,20 +1,26 @@
 package atomic.java.translation;
 
+import atomic.java.ownership.Uses;
 import atomic.java.places.Notes;
 import atomic.java.program.JavaClass;
 import atomic.java.program.JavaMethod;
 import atomic.java.skeleton.Part;
 import atomic.java.skeleton.Value;
+import com.sun.source.tree.BindingPatternTree;
 import com.sun.source.tree.ExpressionTree;
+import com.sun.source.tree.InstanceOfTree;
 import com.sun.source.tree.MemberSelectTree;
 import com.sun.source.tree.MethodInvocationTree;
 import com.sun.source.tree.Tree;
+import com.sun.source.tree.TypeCastTree;
 import java.util.ArrayList;
 import java.util.HashSet;
+import java.util.LinkedHashSet;
 import java.util.List;
 import java.util.Set;
 import javax.lang.model.element.ElementKind;
 import javax.lang.model.element.RecordComponentElement;
+import javax.lang.model.element.VariableElement;
 import javax.lang.model.type.ArrayType;
 import javax.lang.model.type.DeclaredType;
 import javax.lang.model.type.TypeKind;
@@ -136,6 +142,28 @@ final class Comparisons {
             Part one = Dispatch.either(calls);
             body.emit(names == TEXT ? one : new Part.Repeat(one, services.attribution().name(at)));
         }
+    }
+
+    /** An object that is asked here whether it is of a class at hand has that class's methods, whatever its name says. */
+    void tested(LibraryCalls.Called called) {
+        String name = called.shown().substring(called.shown().lastIndexOf('.') + 1);
+        ExpressionTree asked = called.at() instanceof MethodInvocationTree call
+            ? call.getMethodSelect() instanceof MemberSelectTree select ? select.getExpression() : null
+            : called.at() instanceof ExpressionTree part ? part : null;
+        if (asked == null || !ALL.contains(name)
+                || !(services.attribution().element(Uses.bare(asked)) instanceof VariableElement variable)) {
+            return;
+        }
+        Set<JavaClass> found = new LinkedHashSet<>();
+        for (Tree use : services.uses().of(variable)) {
+            Tree parent = services.attribution().parent(use);
+            Tree type = parent instanceof TypeCastTree cast ? cast.getType() : parent instanceof InstanceOfTree test
+                ? test.getPattern() instanceof BindingPatternTree pattern ? pattern.getVariable().getType() : test.getType()
+                : null;
+            found.add(type == null ? null : services.program().find(services.attribution().type(type)));
+        }
+        found.remove(null);
+        found.forEach(each -> own(each, TEXT.contains(name) ? TEXT : Set.of(name), called.at()));
     }
 
     /** A record's own methods, which nobody wrote, call those of its parts. */

@@ -26,6 +26,7 @@ import com.sun.source.tree.TypeCastTree;
 import com.sun.source.tree.UnaryTree;
 import com.sun.source.util.SimpleTreeVisitor;
 import java.util.List;
+import java.util.concurrent.atomic.AtomicReference;
 import javax.lang.model.element.Element;
 import javax.lang.model.element.ElementKind;
 import javax.lang.model.element.VariableElement;
@@ -130,14 +131,15 @@ final class Expressions extends SimpleTreeVisitor<Value, Void> {
 
     @Override
     public Value visitBinary(BinaryTree tree, Void nothing) {
-        value(tree.getLeftOperand());
+        Value left = value(tree.getLeftOperand());
         switch (tree.getKind()) {
             case CONDITIONAL_AND, CONDITIONAL_OR -> perhaps(body.collect(() -> value(tree.getRightOperand())));
+            case PLUS -> {
+                Value right = value(tree.getRightOperand());
+                new LibraryCalls(services, body).joined(tree.getLeftOperand(), left);
+                new LibraryCalls(services, body).joined(tree.getRightOperand(), right);
+            }
             default -> value(tree.getRightOperand());
-        }
-        if (tree.getKind() == Tree.Kind.PLUS) {
-            new LibraryCalls(services, body).joined(tree.getLeftOperand(), tree);
-            new LibraryCalls(services, body).joined(tree.getRightOperand(), tree);
         }
         return Value.OPAQUE;
     }
@@ -168,7 +170,10 @@ final class Expressions extends SimpleTreeVisitor<Value, Void> {
     public Value visitCompoundAssignment(CompoundAssignmentTree tree, Void nothing) {
         accesses.assign(tree.getVariable(), tree.getExpression(), true, this);
         if (tree.getKind() == Tree.Kind.PLUS_ASSIGNMENT) {
-            new LibraryCalls(services, body).joined(tree.getExpression(), tree);
+            // What the expression does is written by the assignment; here only its object is asked for.
+            AtomicReference<Value> added = new AtomicReference<>(Value.OPAQUE);
+            body.collect(() -> added.set(value(tree.getExpression())));
+            new LibraryCalls(services, body).joined(tree.getExpression(), added.get());
         }
         return Value.OPAQUE;
     }

@@ -119,6 +119,11 @@ final class LibraryCalls {
             TypeMirror home = isStatic || heir == null ? symbol.getEnclosingElement().asType() : heir.symbol().asType();
             return services.program().library().choose(home, name);
         }
+        return choose(before, name);
+    }
+
+    /** What the table says of a method of what a name holds: of the class that was made for it, else of its type. */
+    private Choice choose(ExpressionTree before, String name) {
         Element source = services.attribution().element(Uses.bare(before));
         String made = source instanceof VariableElement variable
             && (variable.getKind() == ElementKind.FIELD || variable.getKind() == ElementKind.LOCAL_VARIABLE)
@@ -146,7 +151,7 @@ final class LibraryCalls {
             new Comparisons(services, body).write(called);
             new Callbacks(services, body).write(called);
             if (Comparisons.joins(called.shown())) {
-                called.arguments().forEach(each -> joined(each, called.at()));
+                called.arguments().forEach(each -> joined(each, null));
             }
         }
         if (isWithinOwnMonitor(called)) {
@@ -161,6 +166,7 @@ final class LibraryCalls {
         switch (choice.kind()) {
             case PURE, VIEW, PIPE -> { }
             case ASSUMED -> {
+                new Comparisons(services, body).tested(called);
                 if (!new ThreadLocals(services, body).first(called.at())) {
                     assume(called);
                 }
@@ -372,8 +378,11 @@ final class LibraryCalls {
             List.of()));
     }
 
-    /** A part of a text: its {@code toString} is called. */
-    void joined(ExpressionTree part, Tree at) {
+    /**
+     * A part of a text: its {@code toString} is called, which looks at the contents of a collection. Without an object, what is
+     * looked at among a call's arguments is written already.
+     */
+    void joined(ExpressionTree part, Value object) {
         TypeMirror type = services.attribution().type(Callbacks.written(part));
         if (type == null || type.getKind().isPrimitive() || type.getKind() == TypeKind.NULL
                 || type.getKind() == TypeKind.ARRAY) {
@@ -384,11 +393,13 @@ final class LibraryCalls {
             new Comparisons(services, body).own(known, Comparisons.TEXT, part);
             return;
         }
-        Choice choice = services.program().library().choose(type, "toString");
+        Choice choice = choose(Callbacks.written(part), "toString");
         Called called = new Called(simple(type) + ".toString", Value.OPAQUE, choice, part, List.of());
         if (choice.kind() == Choice.Kind.READS) {
             new Comparisons(services, body).elements(type, called);
-            assume(called);
+            if (object != null && services.immutable(part) == null) {
+                new Contents(services, body).call(object, false, part, called.shown());
+            }
         } else {
             steps(called);
         }
