@@ -116,7 +116,7 @@ public class TextLog {
             return add(prefix);
         }
 
-        public void end() { // accepted
+        public void end() { // refused: fault: nothing keeps another thread from add between the look at the parts and the append
             buf.append(parts);
         }
     }

@@ -10,6 +10,7 @@ import atomic.java.passes.Doubts;
 import atomic.java.passes.Inference;
 import atomic.java.passes.Limits;
 import atomic.java.passes.Marking;
+import atomic.java.passes.OtherNames;
 import atomic.java.passes.Pruning;
 import atomic.java.passes.Races;
 import atomic.java.passes.ReadLocks;
@@ -131,7 +132,12 @@ public final class Run {
         if (program.sure()) {
             new Doubts(all).run();
         }
-        new Unwritten(all).run();
+        Unwritten unwritten = new Unwritten(all, program.sure());
+        if (!program.sure()) {
+            unwritten.tell(program.names(), program.notes());
+            new OtherNames(all).tell(program.notes());
+        }
+        unwritten.run();
         new Waiting(all, program.notes(), methods::origin, methods.wait(null)).strictly(options.strict())
             .apart(methods::copy).run();
         Inference inference = new Inference(all, options.majority(), program.sure());

@@ -4,7 +4,10 @@ import atomic.java.attribution.Attribution;
 import atomic.java.program.JavaClass;
 import atomic.java.program.JavaMethod;
 import atomic.java.program.Program;
+import com.sun.source.tree.ArrayAccessTree;
+import com.sun.source.tree.AssignmentTree;
 import com.sun.source.tree.ClassTree;
+import com.sun.source.tree.ExpressionTree;
 import com.sun.source.tree.IdentifierTree;
 import com.sun.source.tree.LambdaExpressionTree;
 import com.sun.source.tree.MemberReferenceTree;
@@ -170,11 +173,22 @@ public final class Selves {
                 made = program.find(attribution.element(tree.getClassBody()));
             }
             if (made != null && made.hasOuterObject() && tree.getEnclosingExpression() == null && isWithin(made)
-                    && !(containers.apply(made) == self && onlyKeeps(made))) {
+                    && !(containers.apply(made) == self && onlyKeeps(made)) && !(program.sure() && isPutAway(tree))) {
                 leak(tree);
             }
             scan(tree.getArguments(), null);
             return null;
+        }
+
+        /** Whether a new object goes into a field or an element of one, where others find it as long as they know this object. */
+        private boolean isPutAway(NewClassTree made) {
+            Tree parent = attribution.parent(made);
+            ExpressionTree target = parent instanceof AssignmentTree assignment ? assignment.getVariable() : null;
+            while (target instanceof ArrayAccessTree element) {
+                target = element.getExpression();
+            }
+            return target instanceof IdentifierTree && attribution.element(target).getKind() == ElementKind.FIELD
+                && !attribution.element(target).getModifiers().contains(Modifier.STATIC);
         }
 
         /** Whether the making of a node does nothing with the container: no call, no other object, and no name for it. */

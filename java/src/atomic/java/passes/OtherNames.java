@@ -1,5 +1,6 @@
 package atomic.java.passes;
 
+import atomic.java.places.Notes;
 import atomic.java.skeleton.Field;
 import atomic.java.skeleton.Method;
 import atomic.java.skeleton.Part;
@@ -15,13 +16,15 @@ import java.util.Set;
 /**
  * Accesses that may hold the lock of their field under another name: {@code this.queue} may be the same object as
  * {@code this.thread.queue}. So it may be where other accesses of the field hold the second, this one holds the first, both
- * names begin with the same object, and the two locks are of one class. Two locks that their own fields made are two.
+ * names begin with the same object, and the two locks are of one class. Two locks that their own fields made are two. The lock
+ * may also be that of the object around an inner one: {@code synchronized void restore(Handle handle)} of a pool of handles
+ * touches handles of its own.
  */
-final class OtherNames {
+public final class OtherNames {
     private final Map<Field, Set<List<Field>>> guards = new HashMap<>();
     private final Map<Part.Access, Set<Path>> held = new IdentityHashMap<>();
 
-    OtherNames(Collection<Method> methods) {
+    public OtherNames(Collection<Method> methods) {
         new Held(methods).visit((method, access, locks, shared) -> note(access, locks));
     }
 
@@ -36,12 +39,30 @@ final class OtherNames {
         }
     }
 
+    /** Tells where the lock that is held may be that of the object around the one that is touched. */
+    public void tell(Notes notes) {
+        held.forEach((access, locks) -> {
+            Path receiver = access.receiver().path();
+            if (receiver != null && access.field().mayBeGuarded() && access.field().guard() == null
+                    && locks.stream().anyMatch(lock -> mayBeAround(lock, receiver))) {
+                notes.hint(access.place(), "lock under another name: the object around this one may be the one whose lock is"
+                    + " held here");
+            }
+        });
+    }
+
     /** Whether an access may hold a lock that others hold at theirs, under another name. */
     boolean mayBeHeld(Part.Access access) {
         Path receiver = access.receiver().path();
         Set<Path> locks = held.getOrDefault(access, Set.of());
-        return receiver != null && guards.getOrDefault(access.field(), Set.of()).stream().map(receiver::then)
+        return receiver != null && locks.stream().anyMatch(lock -> mayBeAround(lock, receiver)) || receiver != null && guards.getOrDefault(access.field(), Set.of()).stream().map(receiver::then)
             .anyMatch(guard -> !locks.contains(guard) && locks.stream().anyMatch(lock -> mayBeSame(lock, guard)));
+    }
+
+    /** Whether a lock may be that of the object around another one, which that one was made within. */
+    private static boolean mayBeAround(Path lock, Path inner) {
+        return inner.type() != null && lock.type() != null && inner.type().fields().stream().anyMatch(each ->
+            each.isAround() && !lock.equals(inner.then(each)) && (lock.type().fits(each.type()) || each.type().fits(lock.type())));
     }
 
     private static boolean mayBeSame(Path one, Path other) {

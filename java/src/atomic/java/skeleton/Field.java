@@ -22,6 +22,7 @@ public final class Field {
     private boolean contents;
     private boolean lock;
     private boolean made;
+    private boolean around;
     private Field one;
 
     /** A field of {@code owner}; without a type it holds a number; {@code fixed} says that it is final. */
@@ -131,6 +132,15 @@ public final class Field {
 
     public void holdsOwn() {
         made = true;
+    }
+
+    /** Whether it leads from an inner object to the one around it. */
+    public boolean isAround() {
+        return around;
+    }
+
+    public void leadsOut() {
+        around = true;
     }
 
     /** Whether it stands for a field of a container's nodes, of which one may be new where it is touched. */

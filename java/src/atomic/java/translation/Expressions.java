@@ -191,6 +191,8 @@ final class Expressions extends SimpleTreeVisitor<Value, Void> {
         Value value = value(tree.getExpression());
         if (tree.getPattern() instanceof BindingPatternTree pattern) {
             new Locals(services, body).declare(pattern.getVariable(), value);
+        } else {
+            new Locals(services, body).declareAll(tree.getPattern());
         }
         return Value.OPAQUE;
     }

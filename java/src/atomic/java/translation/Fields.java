@@ -345,6 +345,7 @@ public final class Fields {
         return outers.computeIfAbsent(inner, each -> {
             Field field = new Field(inner, program.names().invent("outer",
                 "=" + program.names().shown(outer.name()) + ".this"), outer, true);
+            field.leadsOut();
             inner.fields().add(field);
             return field;
         });

@@ -3,7 +3,10 @@ package atomic.java.translation;
 import atomic.java.program.JavaClass;
 import atomic.java.skeleton.Shape;
 import atomic.java.skeleton.Value;
+import com.sun.source.tree.BindingPatternTree;
+import com.sun.source.tree.Tree;
 import com.sun.source.tree.VariableTree;
+import com.sun.source.util.TreeScanner;
 import javax.lang.model.element.VariableElement;
 
 /** What the locals of a method stand for. */
@@ -21,6 +24,17 @@ final class Locals {
         if (services.attribution().element(tree) instanceof VariableElement variable) {
             body.locals().put(variable, value(variable, first == null ? Value.OPAQUE : first));
         }
+    }
+
+    /** Declares what a pattern names, also the parts of a record. */
+    void declareAll(Tree pattern) {
+        new TreeScanner<Void, Void>() {
+            @Override
+            public Void visitBindingPattern(BindingPatternTree tree, Void nothing) {
+                declare(tree.getVariable(), null);
+                return null;
+            }
+        }.scan(pattern, null);
     }
 
     private Value value(VariableElement variable, Value first) {

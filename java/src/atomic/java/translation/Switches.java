@@ -5,6 +5,7 @@ import com.sun.source.tree.CaseTree;
 import com.sun.source.tree.ExpressionTree;
 import com.sun.source.tree.StatementTree;
 import com.sun.source.tree.Tree;
+import com.sun.source.util.TreeScanner;
 import java.util.ArrayList;
 import java.util.List;
 
@@ -20,6 +21,7 @@ final class Switches {
 
     /** Emits the cases. */
     void cases(List<? extends CaseTree> cases) {
+        cases.forEach(this::label);
         List<Part> alternatives = new ArrayList<>();
         List<Part> chain = new ArrayList<>();
         for (CaseTree each : cases) {
@@ -34,6 +36,30 @@ final class Switches {
         alternatives.add(sequence(chain));
         alternatives.removeIf(Part::isNothing);
         body.emit(Dispatch.either(alternatives));
+    }
+
+    /**
+     * What a case names and asks before it is taken: the names of its pattern, and the test behind {@code when}, which is asked
+     * also where a later case is taken in the end. Java 17 has no name for that test: it is what stands in a case and is neither
+     * a label nor its body.
+     */
+    private void label(CaseTree each) {
+        new TreeScanner<Void, Void>() {
+            @Override
+            public Void scan(Tree tree, Void nothing) {
+                if (tree == each) {
+                    return super.scan(tree, nothing);
+                } else if (tree == null || tree == each.getBody() || tree instanceof StatementTree) {
+                    return null;
+                } else if (tree instanceof ExpressionTree test) {
+                    Part part = body.collect(() -> new Expressions(services, body).value(test));
+                    body.emit(new Part.Either(part, Part.NOTHING));
+                } else {
+                    new Locals(services, body).declareAll(tree);
+                }
+                return null;
+            }
+        }.scan(each, null);
     }
 
     /** A path may begin at any case of a chain, so each but a single one may be left out. */

@@ -26,7 +26,8 @@ record Touches(Services services) {
         "last", "size", "length", "mappingCount", "sum", "availablePermits", "remainingCapacity", "iterator", "forEach",
         "stream", "keySet", "values", "entrySet", "toArray", "toString", "charAt", "substring", "indexOf", "firstKey",
         "lastKey", "firstEntry", "lastEntry", "floorKey", "ceilingKey", "floorEntry", "ceilingEntry", "getCount", "isDone",
-        "getReference", "getStamp", "equals", "hashCode", "reduceValues", "search", "reduce");
+        "getReference", "getStamp", "clone", "elements", "keys", "elementAt", "firstElement", "lastElement", "lastIndexOf",
+        "compareTo", "subSequence", "equals", "hashCode", "reduceValues", "search", "reduce");
     private static final int DEEP = 8;
 
     /** Notes of a call's place what it touches, where that is known. */
