@@ -55,8 +55,9 @@ public final class OtherNames {
     boolean mayBeHeld(Part.Access access) {
         Path receiver = access.receiver().path();
         Set<Path> locks = held.getOrDefault(access, Set.of());
-        return receiver != null && locks.stream().anyMatch(lock -> mayBeAround(lock, receiver)) || receiver != null && guards.getOrDefault(access.field(), Set.of()).stream().map(receiver::then)
-            .anyMatch(guard -> !locks.contains(guard) && locks.stream().anyMatch(lock -> mayBeSame(lock, guard)));
+        return receiver != null && (locks.stream().anyMatch(lock -> mayBeAround(lock, receiver))
+            || guards.getOrDefault(access.field(), Set.of()).stream().map(receiver::then)
+            .anyMatch(guard -> !locks.contains(guard) && locks.stream().anyMatch(lock -> mayBeSame(lock, guard))));
     }
 
     /** Whether a lock may be that of the object around another one, which that one was made within. */

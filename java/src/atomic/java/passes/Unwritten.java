@@ -31,8 +31,7 @@ public final class Unwritten {
     }
 
     private void tell(Part part, Names names, Notes notes) {
-        if (part instanceof Part.Access access && !written.contains(access.field()) && !access.field().isContents()
-                && access.field().guard() == null && access.place() != null) {
+        if (part instanceof Part.Access access && isSettled(access.field()) && access.place() != null) {
             notes.hint(access.place(), "stable look: " + names.shown(access.field().name()) + " is changed only before others"
                 + " know its object, so that a look tells the same at any time; it counts as a step all the same");
         }
@@ -52,8 +51,13 @@ public final class Unwritten {
     }
 
     private Part without(Part part) {
-        boolean idle = part instanceof Part.Access access && !written.contains(access.field())
-            && (access.field().isContents() || sure && access.field().guard() == null);
+        boolean idle = part instanceof Part.Access access && (sure && isSettled(access.field())
+            || access.field().isContents() && !written.contains(access.field()));
         return idle ? Part.NOTHING : part.map(this::without);
+    }
+
+    /** Whether nobody at hand changes a plain field, for which no guard is asked. */
+    private boolean isSettled(Field field) {
+        return field.mayBeGuarded() && !field.isContents() && field.guard() == null && !written.contains(field);
     }
 }

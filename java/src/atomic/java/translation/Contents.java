@@ -14,6 +14,8 @@ import com.sun.source.tree.NewClassTree;
 import com.sun.source.tree.Tree;
 import java.util.ArrayList;
 import java.util.List;
+import javax.lang.model.element.Element;
+import javax.lang.model.element.Modifier;
 import javax.lang.model.element.VariableElement;
 import javax.lang.model.type.TypeKind;
 
@@ -77,6 +79,17 @@ final class Contents {
         boolean array = at instanceof MethodInvocationTree call && (call.getArguments().stream().anyMatch(this::isArray)
             || call.getMethodSelect() instanceof MemberSelectTree select && isArray(select.getExpression()));
         return own || array || isGivenHere(at) ? Method.Doubt.ANY : Method.Doubt.OPEN;
+    }
+
+    /** A method of an object that others bring, and may have a class of their own, runs what they want. */
+    Method.Doubt openness(Tree at) {
+        boolean named = at instanceof MethodInvocationTree call && call.getMethodSelect() instanceof MemberSelectTree select
+            && !select.getExpression().toString().equals("super");
+        Element symbol = services.attribution().element(at);
+        boolean fixed = symbol == null || symbol.getModifiers().contains(Modifier.STATIC)
+            || symbol.getModifiers().contains(Modifier.FINAL)
+            || symbol.getEnclosingElement().getModifiers().contains(Modifier.FINAL);
+        return named && !fixed ? Method.Doubt.OPEN : Method.Doubt.ANY;
     }
 
     /** Whether a call is made on what a method of the sources gives, or is given that, which may be new. */

@@ -279,20 +279,9 @@ final class LibraryCalls {
             body.emit(services.doubt(Method.Doubt.ANY, called.shown(), true, body, called.at(),
                 "unknown call: " + called.shown() + " runs a function that isn't known, so it counts as several steps"));
         } else {
-            body.emit(services.doubt(openness(called.at()), called.shown(), true, body, called.at(),
+            body.emit(services.doubt(new Contents(services, body).openness(called.at()), called.shown(), true, body, called.at(),
                 "unknown call: " + called.shown() + " may do anything, so it counts as several steps"));
         }
-    }
-
-    /** A method of an object that others bring, and may have a class of their own, runs what they want. */
-    private Method.Doubt openness(Tree at) {
-        boolean named = at instanceof MethodInvocationTree call && call.getMethodSelect() instanceof MemberSelectTree select
-            && !select.getExpression().toString().equals("super");
-        Element symbol = services.attribution().element(at);
-        boolean fixed = symbol == null || symbol.getModifiers().contains(Modifier.STATIC)
-            || symbol.getModifiers().contains(Modifier.FINAL)
-            || symbol.getEnclosingElement().getModifiers().contains(Modifier.FINAL);
-        return named && !fixed ? Method.Doubt.OPEN : Method.Doubt.ANY;
     }
 
     private void assume(Called called) {
