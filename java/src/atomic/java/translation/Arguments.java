@@ -60,9 +60,22 @@ final class Arguments {
             return;
         } else if (services.program().library().hasContents(type)) {
             new Contents(services, body).call(value, fills, called.at(), called.shown());
+            if (type.getKind() == TypeKind.ARRAY && value instanceof Value.Owned && walks(called)) {
+                new Contents(services, body).call(value, fills, called.at(), called.shown());
+            }
         } else if (!(value instanceof Value.Fresh) && BARE.stream().noneMatch(called.shown()::startsWith)) {
             lookAtSafe(type, called);
         }
+    }
+
+    /**
+     * Whether a call goes over the elements of an array, one after the other, as {@code Arrays.toString} does. Where only what
+     * is sure counts, it may see them all at once.
+     */
+    private boolean walks(LibraryCalls.Called called) {
+        boolean one = called.shown().startsWith("VarHandle.") || BARE.stream().anyMatch(called.shown()::startsWith)
+            && !called.shown().equals("System.arraycopy");
+        return !one && !services.program().sure();
     }
 
     /**

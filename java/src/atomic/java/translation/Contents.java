@@ -62,6 +62,14 @@ final class Contents {
         }
     }
 
+    /** A copy of an array looks at its elements one after the other. */
+    void copy(Value array, Tree at, String shown) {
+        call(array, false, at, shown);
+        if (array instanceof Value.Owned && !services.program().sure()) {
+            call(array, false, at, shown);
+        }
+    }
+
     /** Tells where the object that is changed here gets out of its field: who has it needs no lock to look at it. */
     private void exits(ExpressionTree named, boolean write) {
         if (write && services.attribution().element(Uses.bare(named)) instanceof VariableElement field) {

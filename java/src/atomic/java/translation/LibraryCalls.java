@@ -72,7 +72,7 @@ final class LibraryCalls {
         }
         if (before != null && services.attribution().type(before).getKind() == TypeKind.ARRAY
                 && symbol.getSimpleName().contentEquals("clone")) {
-            new Contents(services, body).call(object, false, tree, before + ".clone");
+            new Contents(services, body).copy(object, tree, before + ".clone");
             return new Value.Fresh(null);
         }
         Choice choice = choose(before, symbol, isStatic);
