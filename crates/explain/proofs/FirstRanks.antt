@@ -1,5 +1,5 @@
 -- Before ranks are given; the methods that are asked in a round; and the last round.
-use Rattle.std.proofs.Common.{◌≡◌, ◌⊎◌, ℕ, zero, suc, ◌+◌, ◌-◌, ◌<◌, ◌≤◌, Bool, true, false, ◌||◌, List, [], ◌∷◌, ◌++◌, Option, Some, None, length, map, drop, get_or, slice_get, append-nil, append_assoc, refl, sym, ap, subst, ◌∙◌, if◌then◌else◌, arith, inl, inr}
+use Rattle.std.proofs.Common.{◌≡◌, ◌⊎◌, ℕ, zero, suc, ◌+◌, ◌<◌, ◌≤◌, Bool, true, false, ◌||◌, List, [], ◌∷◌, ◌++◌, Option, Some, None, length, map, drop, get_or, slice_get, append-nil, append_assoc, refl, sym, ap, subst, ◌∙◌, if◌then◌else◌, arith, inl, inr}
 use Rattle.std.proofs.lemmas.Bool.{or_parts}
 use Rattle.std.proofs.lemmas.Option.{same_Some, none-some, slice_get_within}
 use Rattle.std.proofs.Math.ListN.{drop_of_length-le}
@@ -138,7 +138,7 @@ item_there methods i method all below is are = ap (λ ms. slice_get ms i) (sym a
 -- the methods before a place were asked: ranks are given as before, and where none was given, none of these methods can have this one
 pub record Asked (P : Program) (rel : ℕ → List PathData) (A : Assignment) (overs : ℕ → List ℕ) (level : Basic) (round : ℕ) (at : ℕ) (any : Bool) (old now : List Ground) : Type 0 where
   pub many : length now ≡ length old
-  pub ranked : (bounds : Bounds) → AreCircling bounds P rel A overs old round → AreCircling bounds P rel A overs now round
+  pub ranked : (bounds : Bounds) → AreCircling bounds P rel A overs old (round + 1) → AreCircling bounds P rel A overs now (round + 1)
   pub same : any ≡ false → now ≡ old
   pub stuck : any ≡ false → (m : ℕ) (method : Method) → slice_get P.methods m ≡ Some method → m < at → is_stuck_at P rel A overs old level round m method ≡ true
 
@@ -152,7 +152,7 @@ module _ (P : Program) (rel : ℕ → List PathData) (A : Assignment) (overs : �
   }
 
   pub asked_more : (at : ℕ) (method : Method) (any one any1 : Bool) (old now now1 : List Ground) → slice_get P.methods at ≡ Some method → Asked P rel A overs level round at any old now → any1 ≡ (any || one) → length now1 ≡ length now
-      → ((bounds : Bounds) → slice_get P.methods at ≡ Some method → AreCircling bounds P rel A overs now round → AreCircling bounds P rel A overs now1 round) → (one ≡ false → now1 ≡ now)
+      → ((bounds : Bounds) → slice_get P.methods at ≡ Some method → AreCircling bounds P rel A overs now (round + 1) → AreCircling bounds P rel A overs now1 (round + 1)) → (one ≡ false → now1 ≡ now)
       → (one ≡ false → is_stuck_at P rel A overs now level round at method ≡ true) → Asked P rel A overs level round (at + 1) any1 old now1
   asked_more at method any one any1 old now now1 there asked any_is many ranked same stuck = record {
     many = many ∙ asked.many;

@@ -1,5 +1,5 @@
 -- A method is given a rank.
-use Rattle.std.proofs.Common.{◌≡◌, ◌≢◌, ◌⊎◌, ℕ, zero, suc, ◌+◌, ◌-◌, ◌<◌, ◌≤◌, ◌==◌, Bool, true, false, ◌&&◌, List, [], ◌∷◌, Option, Some, None, length, slice_get, slice_set, refl, sym, ap, subst, ◌∙◌, if◌then◌else◌, arith, inl, inr}
+use Rattle.std.proofs.Common.{◌≡◌, ◌≢◌, ◌⊎◌, ℕ, zero, suc, ◌+◌, ◌<◌, ◌≤◌, ◌==◌, Bool, true, false, ◌&&◌, List, [], ◌∷◌, Option, Some, None, length, slice_get, slice_set, refl, sym, ap, subst, ◌∙◌, if◌then◌else◌, arith, inl, inr}
 use Rattle.std.specs.Prelude.{nat_le, nat_lt}
 use Rattle.std.proofs.lemmas.Bool.{and_parts, eq-eqb, eqb-true, eqb-false, le-leb, ltb-false, ltb-true, false≢true}
 use Rattle.std.proofs.lemmas.Option.{same_Some, none-some, slice_get_within}
@@ -165,7 +165,7 @@ module _ (bounds : Bounds) (P : Program) (rel : ℕ → List PathData) (A : Assi
     ];
   }
 
-  pub circling_next : ((k : ℕ) → rank_at grounds k ≡ open_rank → RunsInCircle bounds P rel A overs k) → AreCircling bounds P rel A overs now round
+  pub circling_next : ((k : ℕ) → rank_at grounds k ≡ open_rank → RunsInCircle bounds P rel A overs k) → AreCircling bounds P rel A overs now (round + 1)
   circling_next open_ones = record { ranked = ranked_next; open_ones = λ k late. open_ones k (open_before k late) }
 
 -- the ranks that are smaller than one are smaller than the next
@@ -183,6 +183,14 @@ more_rounds bounds P rel A overs grounds round ranked = record {
   plain = ranked.plain;
   more = ranked.more;
   circles = ranked.circles;
+}
+
+-- those that run into circles do so in the next round
+pub more_circling : (bounds : Bounds) (P : Program) (rel : ℕ → List PathData) (A : Assignment) (overs : ℕ → List ℕ) (grounds : List Ground) (round : ℕ)
+    → AreCircling bounds P rel A overs grounds round → AreCircling bounds P rel A overs grounds (round + 1)
+more_circling bounds P rel A overs grounds round circling = record {
+  ranked = more_rounds bounds P rel A overs grounds round circling.ranked;
+  open_ones = circling.open_ones;
 }
 
 -- where no method can be ranked as it is, each that has no rank leads to one that has none
@@ -224,21 +232,20 @@ pub are_circling : (bounds : Bounds) (P : Program) (rel : ℕ → List PathData)
     → ((m : ℕ) → m < length old → may_rank old round (slice_get old m) ≡ false) → AreCircling bounds P rel A overs new round
 are_circling bounds P rel A overs old new round same ranked stuck =
     subst (λ grounds. AreCircling bounds P rel A overs grounds round) (sym same)
-    (record { ranked = more_rounds bounds P rel A overs old round ranked; open_ones = open_circle bounds P rel A overs old round ranked stuck })
+    (record { ranked = ranked; open_ones = open_circle bounds P rel A overs old round ranked stuck })
 
 -- ---- two ways to give it
 
 -- a method whose explanation, as it is, leads nowhere or below the rank
-pub led_next : (bounds : Bounds) (P : Program) (rel : ℕ → List PathData) (A : Assignment) (overs : ℕ → List ℕ) (grounds : List Ground) (m : ℕ) (was row : Ground) (round : ℕ) → slice_get grounds m ≡ Some was
+led_is_next : (bounds : Bounds) (P : Program) (rel : ℕ → List PathData) (A : Assignment) (overs : ℕ → List ℕ) (grounds : List Ground) (m : ℕ) (was row : Ground) (round : ℕ) → slice_get grounds m ≡ Some was
     → was.rank ≡ open_rank → leads_below grounds round was.lead ≡ true → round < open_rank → row ≡ ground_with round was.level was.lead
-    → AreRanked bounds P rel A overs grounds (round + 1) → AreRanked bounds P rel A overs (slice_set grounds m row) (round + 1)
-led_next bounds P rel A overs grounds m was row round is late falls low row_is ranked =
+    → AreRanked bounds P rel A overs grounds (round + 1) → IsRankedNext bounds P rel A overs grounds m row round
+led_is_next bounds P rel A overs grounds m was row round is late falls low row_is ranked =
     let rank_there : rank_at grounds m ≡ open_rank = ap rank_in_row is ∙ late in
     let plain : was.level ≡ None = sym (ap level_in_row is) ∙ ranked.plain m rank_there in
     let level_is : row.level ≡ None = ap (λ (g : Ground). g.level) row_is ∙ plain in
     let lead_is : row.lead ≡ lead_at grounds m = ap (λ (g : Ground). g.lead) row_is ∙ sym (ap lead_in_row is) in
-    ranked_next bounds P rel A overs grounds m row round
-    (record {
+    record {
       inside = slice_get_within grounds m was is;
       low = low;
       was = rank_there;
@@ -249,12 +256,12 @@ led_next bounds P rel A overs grounds m was row round is late falls low row_is r
           ∙ ap (λ l. why_from P rel A overs grounds l round m method (limit_for bounds P A m method)) (sym level_is));
       level = λ method more. subst (λ l. IsLevel l (why_from P rel A overs grounds l round m method (limit_for bounds P A m method))) (sym level_is) tt;
       circle = λ level has. absurd (none-some level (sym level_is ∙ has));
-    }) ranked
+    }
 
 -- a method with a reason by what is known before the rank
 pub known_next : (bounds : Bounds) (P : Program) (rel : ℕ → List PathData) (A : Assignment) (overs : ℕ → List ℕ) (grounds : List Ground) (m : ℕ) (method : Method) (row : Ground) (level : Basic) (round : ℕ) → m < length grounds
     → rank_at grounds m ≡ open_rank → round < open_rank → AtMost Atomic level → ground_by P rel A overs grounds level round m method ≡ Some row → slice_get P.methods m ≡ Some method
-    → AreCircling bounds P rel A overs grounds round → AreCircling bounds P rel A overs (slice_set grounds m row) round
+    → AreCircling bounds P rel A overs grounds (round + 1) → AreCircling bounds P rel A overs (slice_set grounds m row) (round + 1)
 known_next bounds P rel A overs grounds m method row level round inside late low atomic found there circling =
     by (is_grounded_by P rel grounds round why) refl found
   where
@@ -262,13 +269,13 @@ known_next bounds P rel A overs grounds m method row level round inside late low
     why = known_reason P rel A overs grounds level round m method
 
     by : (t : Bool) → is_grounded_by P rel grounds round why ≡ t → (if t then Some (ground_with round (Some level) (reason_lead P rel why)) else None) ≡ Some row
-        → AreCircling bounds P rel A overs (slice_set grounds m row) round
+        → AreCircling bounds P rel A overs (slice_set grounds m row) (round + 1)
     by false test is = absurd (none-some row is)
     by true test is =
         let made : Ground = ground_with round (Some level) (reason_lead P rel why) in
         let row_is : made ≡ row = same_Some made row is in
         let parts = and_parts (is_reason why) (leads_below grounds round (reason_lead P rel why)) test in
-        subst (λ r. AreCircling bounds P rel A overs (slice_set grounds m r) round) row_is
+        subst (λ r. AreCircling bounds P rel A overs (slice_set grounds m r) (round + 1)) row_is
         (circling_next bounds P rel A overs grounds m made round
         (record {
           inside = inside;
@@ -282,10 +289,32 @@ known_next bounds P rel A overs grounds m method row level round inside late low
         }) circling.ranked circling.open_ones)
 
 -- a row that may have the rank
-pub led_row : (bounds : Bounds) (P : Program) (rel : ℕ → List PathData) (A : Assignment) (overs : ℕ → List ℕ) (grounds : List Ground) (m : ℕ) (row : Ground) (round : ℕ) (o : Option Ground) → slice_get grounds m ≡ o
-    → may_rank grounds round o ≡ true → round < open_rank → ((was : Ground) → o ≡ Some was → row ≡ ground_with round was.level was.lead)
-    → AreRanked bounds P rel A overs grounds (round + 1) → AreRanked bounds P rel A overs (slice_set grounds m row) (round + 1)
-led_row bounds P rel A overs grounds m row round None is may low row_is ranked = absurd (false≢true may)
-led_row bounds P rel A overs grounds m row round (Some was) is may low row_is ranked =
-    let parts = and_parts (was.rank == open_rank) (leads_below grounds round was.lead) may in
-    led_next bounds P rel A overs grounds m was row round is (eqb-true was.rank open_rank parts.0) parts.1 low (row_is was refl) ranked
+module _ (bounds : Bounds) (P : Program) (rel : ℕ → List PathData) (A : Assignment) (overs : ℕ → List ℕ) (grounds : List Ground) (m : ℕ) (row : Ground) (round : ℕ) where
+  row_is_next : (o : Option Ground) → slice_get grounds m ≡ o → may_rank grounds round o ≡ true → round < open_rank → ((was : Ground) → o ≡ Some was → row ≡ ground_with round was.level was.lead)
+      → AreRanked bounds P rel A overs grounds (round + 1) → IsRankedNext bounds P rel A overs grounds m row round
+  row_is_next None is may low row_is ranked = absurd (false≢true may)
+  row_is_next (Some was) is may low row_is ranked =
+      let parts = and_parts (was.rank == open_rank) (leads_below grounds round was.lead) may in
+      led_is_next bounds P rel A overs grounds m was row round is (eqb-true was.rank open_rank parts.0) parts.1 low (row_is was refl) ranked
+
+  pub led_row : may_rank grounds round (slice_get grounds m) ≡ true → round < open_rank → ((was : Ground) → slice_get grounds m ≡ Some was → row ≡ ground_with round was.level was.lead)
+      → AreRanked bounds P rel A overs grounds (round + 1) → AreRanked bounds P rel A overs (slice_set grounds m row) (round + 1)
+  led_row may low row_is ranked = ranked_next bounds P rel A overs grounds m row round (row_is_next (slice_get grounds m) refl may low row_is ranked) ranked
+
+  -- the same where those that have no rank run into circles
+  pub led_circling : may_rank grounds round (slice_get grounds m) ≡ true → round < open_rank → ((was : Ground) → slice_get grounds m ≡ Some was → row ≡ ground_with round was.level was.lead)
+      → AreCircling bounds P rel A overs grounds (round + 1) → AreCircling bounds P rel A overs (slice_set grounds m row) (round + 1)
+  led_circling may low row_is circling =
+      circling_next bounds P rel A overs grounds m row round (row_is_next (slice_get grounds m) refl may low row_is circling.ranked) circling.ranked circling.open_ones
+
+-- ---- ranks of methods of circles that are given one after the other
+
+-- by what is known of a program
+pub record KeepsCircling (P : Program) (rel : ℕ → List PathData) (A : Assignment) (overs : ℕ → List ℕ) (round : ℕ) (old now : List Ground) : Type 0 where
+  pub many : length now ≡ length old
+  pub circling : (bounds : Bounds) → AreCircling bounds P rel A overs old (round + 1) → AreCircling bounds P rel A overs now (round + 1)
+
+-- as explanations are, of whatever program
+pub record KeepsLed (round : ℕ) (old now : List Ground) : Type 0 where
+  pub many : length now ≡ length old
+  pub circling : (bounds : Bounds) (P : Program) (rel : ℕ → List PathData) (A : Assignment) (overs : ℕ → List ℕ) → AreCircling bounds P rel A overs old (round + 1) → AreCircling bounds P rel A overs now (round + 1)

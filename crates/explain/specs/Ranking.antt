@@ -71,9 +71,9 @@ pub record AreRanked (bounds : Bounds) (P : Program) (rel : ℕ → List PathDat
   pub more : (m : ℕ) → rank_at grounds m ≡ open_rank → (method : Method) × IsMoreThanLimit bounds P A m method
   pub circles : (m : ℕ) (level : Basic) → level_at grounds m ≡ Some level → RunsInCircle bounds P rel A overs m
 
--- the same of a round in which no method gets its rank as it is: each that has none runs into a circle
+-- the same where no method can get its rank as it is: each that has none runs into a circle
 pub record AreCircling (bounds : Bounds) (P : Program) (rel : ℕ → List PathData) (A : Assignment) (overs : ℕ → List ℕ) (grounds : List Ground) (round : ℕ) : Type 0 where
-  pub ranked : AreRanked bounds P rel A overs grounds (round + 1)
+  pub ranked : AreRanked bounds P rel A overs grounds round
   pub open_ones : (m : ℕ) → rank_at grounds m ≡ open_rank → RunsInCircle bounds P rel A overs m
 
 -- each method has a rank, or no reason by what is known before this one

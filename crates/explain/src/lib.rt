@@ -4,8 +4,10 @@
 #![tactic(auto)]
 
 mod advice;
+mod asked;
 mod assigned;
 mod causes;
+mod circles;
 mod deeds;
 mod errors;
 mod explaining;
@@ -26,6 +28,7 @@ mod wrapping;
 pub use advice::fitting;
 pub use assigned::Shown;
 pub use causes::{Cause, cause_of};
+pub use circles::find_grounds;
 pub use deeds::{Deed, Help, deed_of, help_of};
 pub use explaining::{Why, basics};
 pub use found::{CorePart, Visited};
@@ -35,7 +38,7 @@ pub use laws_of_explanations::{
 };
 pub use names::{Alias, Lack, aliases, ascending};
 pub use program::{Explained, explanations};
-pub use ranking::{Bounds, find_grounds};
+pub use ranking::Bounds;
 pub use step_and_place_laws::{error_laws, help_laws, place_laws, step_laws};
 pub use strict::{keep_strictly, strict_explanations};
 pub use unguarded::{BareWrite, bare_writes};

@@ -11,8 +11,9 @@ ghost use Rattle.rules.specs.Rules.{AtMost};
 ghost use Rattle.rules.specs.Search.{row_at};
 ghost use Rattle.explain.specs.declared.ranking.Bounds.{Bounds};
 ghost use Rattle.explain.specs.Leads.{limit_for, told_limit};
-ghost use Rattle.explain.specs.Ranking.{AreAllRanked, AreCircling, AreRanked, AreStuck, first_ground, first_grounds, ground_by, is_stuck_at, may_rank, open_rank};
+ghost use Rattle.explain.specs.Ranking.{AreCircling, AreRanked, AreStuck, first_ground, first_grounds, ground_by, is_stuck_at, may_rank, open_rank};
 
+use crate::asked::OPEN;
 use crate::explaining::why_more;
 use crate::grounds::{Ground, Lowered, is_reason, leads_below, rank_at, reason_lead, why_known};
 use crate::program::keeps;
@@ -32,14 +33,11 @@ pub enum Bounds {
     Strict,
 }
 
-/// The rank of a method that has none yet.
-const OPEN: u64 = u64::MAX;
-
 /// A rank that is given, and the level to which methods of that rank and greater ones are lowered.
 #[derive(Clone, Copy)]
-struct Round {
-    number: u64,
-    level: Basic,
+pub(crate) struct Round {
+    pub(crate) number: u64,
+    pub(crate) level: Basic,
 }
 
 /// The greatest basic that a method may have without being told.
@@ -99,7 +97,7 @@ fn first_ground<A: Assigned>(
 }
 
 /// All methods before ranks are given.
-fn first_grounds<A: Assigned>(
+pub(crate) fn first_grounds<A: Assigned>(
     walk: &Walk<'_, A>,
     over: &OverridingMethods,
     bounds: Bounds,
@@ -124,11 +122,12 @@ fn may_rank(grounds: &[Ground], place: usize, round: u64) -> bool
 }
 
 /// Gives this rank to a method that has none, where its explanation leads nowhere or to a method of smaller rank.
-fn rank_led(grounds: &mut Vec<Ground>, place: usize, round: u64) -> bool
+pub(crate) fn rank_led(grounds: &mut Vec<Ground>, place: usize, round: u64) -> bool
     requires place { place < length grounds.old.items }
     requires round { round < open_rank }
     ensures length { length grounds.new.items ≡ length grounds.old.items }
     ensures ranked { (bounds : Bounds) (P : Program) (rel : ℕ → List PathData) (A : Assignment) (overs : ℕ → List ℕ) → AreRanked bounds P rel A overs grounds.old.items (round + 1) → AreRanked bounds P rel A overs grounds.new.items (round + 1) }
+    ensures circling { (bounds : Bounds) (P : Program) (rel : ℕ → List PathData) (A : Assignment) (overs : ℕ → List ℕ) → AreCircling bounds P rel A overs grounds.old.items (round + 1) → AreCircling bounds P rel A overs grounds.new.items (round + 1) }
     ensures same { result ≡ false → grounds.new.items ≡ grounds.old.items }
     ensures stuck { result ≡ false → may_rank grounds.old.items round (slice_get grounds.old.items place) ≡ false }
 {
@@ -140,7 +139,7 @@ fn rank_led(grounds: &mut Vec<Ground>, place: usize, round: u64) -> bool
 }
 
 /// Gives this rank to all such methods.
-fn rank_all_led(grounds: &mut Vec<Ground>, round: u64) -> bool
+pub(crate) fn rank_all_led(grounds: &mut Vec<Ground>, round: u64) -> bool
     requires { round < open_rank }
     ensures length { length grounds.new.items ≡ length grounds.old.items }
     ensures ranked { (bounds : Bounds) (P : Program) (rel : ℕ → List PathData) (A : Assignment) (overs : ℕ → List ℕ) → AreRanked bounds P rel A overs grounds.old.items (round + 1) → AreRanked bounds P rel A overs grounds.new.items (round + 1) }
@@ -186,7 +185,7 @@ fn ground_by<A: Assigned>(
 }
 
 /// Gives this rank to a method that has none, where there is such a ground.
-fn rank_known<A: Assigned>(
+pub(crate) fn rank_known<A: Assigned>(
     walk: &Walk<'_, A>,
     over: &OverridingMethods,
     grounds: &mut Vec<Ground>,
@@ -199,8 +198,8 @@ fn rank_known<A: Assigned>(
     requires level { AtMost Atomic round.now.level }
     ensures length { length grounds.new.items ≡ length grounds.old.items }
     ensures ranked { OnOk result ((bounds : Bounds) → slice_get (program_of walk.now.program.now).methods id ≡ Some (method_of method.now) →
-        AreCircling bounds (program_of walk.now.program.now) (rel_of walk.now.sets.now) (A.Assigned.assigned walk.now.assigned.now) (row_at over.now) grounds.old.items round.now.number →
-        AreCircling bounds (program_of walk.now.program.now) (rel_of walk.now.sets.now) (A.Assigned.assigned walk.now.assigned.now) (row_at over.now) grounds.new.items round.now.number) }
+        AreCircling bounds (program_of walk.now.program.now) (rel_of walk.now.sets.now) (A.Assigned.assigned walk.now.assigned.now) (row_at over.now) grounds.old.items (round.now.number + 1) →
+        AreCircling bounds (program_of walk.now.program.now) (rel_of walk.now.sets.now) (A.Assigned.assigned walk.now.assigned.now) (row_at over.now) grounds.new.items (round.now.number + 1)) }
     ensures same { IfOk result (λ any. any ≡ false → grounds.new.items ≡ grounds.old.items) }
     ensures stuck { IfOk result (λ any. any ≡ false → is_stuck_at (program_of walk.now.program.now) (rel_of walk.now.sets.now) (A.Assigned.assigned walk.now.assigned.now) (row_at over.now)
         grounds.old.items round.now.level round.now.number id (method_of method.now) ≡ true) }
@@ -218,7 +217,7 @@ fn rank_known<A: Assigned>(
 }
 
 /// Gives this rank to all methods that have none and for which there is such a ground.
-fn rank_all_known<A: Assigned>(
+pub(crate) fn rank_all_known<A: Assigned>(
     walk: &Walk<'_, A>,
     over: &OverridingMethods,
     grounds: &mut Vec<Ground>,
@@ -230,8 +229,8 @@ fn rank_all_known<A: Assigned>(
     requires level { AtMost Atomic round.now.level }
     ensures length { length grounds.new.items ≡ length grounds.old.items }
     ensures ranked { OnOk result ((bounds : Bounds) →
-        AreCircling bounds (program_of walk.now.program.now) (rel_of walk.now.sets.now) (A.Assigned.assigned walk.now.assigned.now) (row_at over.now) grounds.old.items round.now.number →
-        AreCircling bounds (program_of walk.now.program.now) (rel_of walk.now.sets.now) (A.Assigned.assigned walk.now.assigned.now) (row_at over.now) grounds.new.items round.now.number) }
+        AreCircling bounds (program_of walk.now.program.now) (rel_of walk.now.sets.now) (A.Assigned.assigned walk.now.assigned.now) (row_at over.now) grounds.old.items (round.now.number + 1) →
+        AreCircling bounds (program_of walk.now.program.now) (rel_of walk.now.sets.now) (A.Assigned.assigned walk.now.assigned.now) (row_at over.now) grounds.new.items (round.now.number + 1)) }
     ensures same { IfOk result (λ any. any ≡ false → grounds.new.items ≡ grounds.old.items) }
     ensures stuck { IfOk result (λ any. any ≡ false → AreStuck (program_of walk.now.program.now) (rel_of walk.now.sets.now) (A.Assigned.assigned walk.now.assigned.now) (row_at over.now)
         grounds.new.items round.now.level round.now.number) }
@@ -241,58 +240,4 @@ fn rank_all_known<A: Assigned>(
         any |= rank_known(walk, over, grounds, round, MethodId(m as u32), method)?;
     }
     Ok(any)
-}
-
-/// Gives this rank to methods that have none: to those whose explanation leads nowhere or to a smaller rank; where there is none, to those
-/// that are errors by what is known before it; and where there is none of these either, to those that are compound by it.
-fn rank_round<A: Assigned>(
-    walk: &Walk<'_, A>,
-    over: &OverridingMethods,
-    grounds: &mut Vec<Ground>,
-    number: u64,
-) -> Result<bool, NoMemory>
-    requires few { length (program_of walk.now.program.now).methods ≤ 2 ^ 32 }
-    requires each { length grounds.old.items ≡ length (program_of walk.now.program.now).methods }
-    requires round { number < open_rank }
-    ensures length { length grounds.new.items ≡ length grounds.old.items }
-    ensures ranked { OnOk result ((bounds : Bounds) →
-        AreRanked bounds (program_of walk.now.program.now) (rel_of walk.now.sets.now) (A.Assigned.assigned walk.now.assigned.now) (row_at over.now) grounds.old.items number →
-        AreRanked bounds (program_of walk.now.program.now) (rel_of walk.now.sets.now) (A.Assigned.assigned walk.now.assigned.now) (row_at over.now) grounds.new.items (number + 1)) }
-    ensures same { IfOk result (λ any. any ≡ false → grounds.new.items ≡ grounds.old.items) }
-    ensures stuck { IfOk result (λ any. any ≡ false → AreStuck (program_of walk.now.program.now) (rel_of walk.now.sets.now) (A.Assigned.assigned walk.now.assigned.now) (row_at over.now)
-        grounds.new.items Atomic number) }
-{
-    if rank_all_led(grounds, number) {
-        return Ok(true);
-    }
-    let errors = Round {
-        number,
-        level: Basic::Cmpd,
-    };
-    if rank_all_known(walk, over, grounds, &errors)? {
-        return Ok(true);
-    }
-    let compounds = Round {
-        number,
-        level: Basic::Atomic,
-    };
-    rank_all_known(walk, over, grounds, &compounds)
-}
-
-/// On what the explanation of each method rests. Each round ranks a method, so there are never as many rounds as are allowed.
-pub fn find_grounds<A: Assigned>(
-    walk: &Walk<'_, A>,
-    over: &OverridingMethods,
-    bounds: Bounds,
-) -> Result<Vec<Ground>, NoMemory>
-    requires { length (program_of walk.now.program.now).methods ≤ 2 ^ 32 }
-    ensures { IfOk result (λ grounds. AreAllRanked bounds (program_of walk.now.program.now) (rel_of walk.now.sets.now) (A.Assigned.assigned walk.now.assigned.now) (row_at over.now) grounds.items) }
-{
-    let mut grounds = first_grounds(walk, over, bounds)?;
-    for round in 1..OPEN {
-        if !rank_round(walk, over, &mut grounds, round)? {
-            return Ok(grounds);
-        }
-    }
-    Err(NoMemory)
 }

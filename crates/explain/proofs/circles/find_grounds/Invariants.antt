@@ -2,7 +2,7 @@ use Rattle.core_program.specs.Views.{program_of}
 use Rattle.rules.specs.Near.{rel_of}
 use Rattle.rules.specs.Search.{row_at}
 use Rattle.explain.specs.Ranking.{AreRanked}
-use Rattle.explain.proofs.ranking.find_grounds.Given as goal
+use Rattle.explain.proofs.circles.find_grounds.Given as goal
 
 -- the ranks that are smaller than this one are given
 abbrev pub invariant-loop-round : goal.invariant-loop-round
