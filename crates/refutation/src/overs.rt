@@ -72,35 +72,6 @@ fn join_all(floors: &Floors<'_>, methods: &[MethodId], rel: &[Path], table: &mut
     true
 }
 
-/// What is said of the methods that override one.
-pub(crate) fn said_of_overriding(
-    alloc: Global,
-    judged: &Judged<'_>,
-    floors: &Floors<'_>,
-    method: MethodId,
-) -> Result<OverSaid, NoMemory>
-    requires { AreOverriders (program_of judged.now.program.now) judged.now.over.now }
-    ensures { let rel = rel_of floors.now.sets.now in
-        (lines : List LineData) → TablesSay rel floors.now.tables.items lines →
-        IfOk result (λ o. IsSaidOver (program_of judged.now.program.now) rel (floor rel lines) method o.table o.whole o.most) }
-{
-    let rel = floors.sets.rel(method);
-    let mut basics = consts(alloc, rel)?;
-    if join_all(floors, judged.over.of(method), rel, basics.as_mut_slice()) {
-        return Ok(OverSaid {
-            table: Table { basics },
-            whole: true,
-            most: Basic::Error,
-        });
-    }
-    let most = said_at_most(judged, floors, method);
-    Ok(OverSaid {
-        table: Table { basics },
-        whole: false,
-        most,
-    })
-}
-
 /// The table of what is said of the methods that override one.
 pub(crate) fn over_table(
     alloc: Global,
@@ -120,5 +91,33 @@ pub(crate) fn over_table(
         method,
         table: Table { basics },
         whole,
+    })
+}
+
+/// What is said of the methods that override one.
+pub(crate) fn said_of_overriding(
+    alloc: Global,
+    judged: &Judged<'_>,
+    floors: &Floors<'_>,
+    method: MethodId,
+) -> Result<OverSaid, NoMemory>
+    requires { AreOverriders (program_of judged.now.program.now) judged.now.over.now }
+    ensures { let rel = rel_of floors.now.sets.now in
+        (lines : List LineData) → TablesSay rel floors.now.tables.items lines →
+        IfOk result (λ o. IsSaidOver (program_of judged.now.program.now) rel (floor rel lines) method o.table o.whole o.most) }
+{
+    let known = over_table(alloc, judged, floors, method)?;
+    if known.whole {
+        return Ok(OverSaid {
+            table: known.table,
+            whole: true,
+            most: Basic::Error,
+        });
+    }
+    let most = said_at_most(judged, floors, method);
+    Ok(OverSaid {
+        table: known.table,
+        whole: false,
+        most,
     })
 }
