@@ -1,5 +1,5 @@
--- Options that hang on others or on tests.
-use Rattle.std.proofs.Common.{◌≡◌, Bool, true, false, Option, Some, None, refl}
+-- Options that hang on others or on tests, and tests that do.
+use Rattle.std.proofs.Common.{◌≡◌, Bool, true, false, not, ◌||◌, Option, Some, None, refl}
 use Rattle.std.specs.Prelude.{option_and_then, if◌then◌else◌}
 use Rattle.std.proofs.lemmas.Option.{option_and_then_some}
 
@@ -16,3 +16,8 @@ choice_same false x y z h = refl
 pub if_taken : {A : Type 0} (b : Bool) (o : Option A) (x : A) → (if b then o else None) ≡ Some x → (b ≡ true) × (o ≡ Some x)
 if_taken true o x e = (refl, e)
 if_taken false o x e = absurd cc
+
+-- a test that passes unless another one fails
+pub unless : (a b : Bool) → (not a || b) ≡ true → a ≡ true → b ≡ true
+unless true b h e = h
+unless false b h e = absurd cc

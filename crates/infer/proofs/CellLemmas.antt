@@ -10,6 +10,7 @@ use Rattle.algebra.specs.declared.basic.Basic.TheVariants.{Const, Mover, Atomic,
 use Rattle.algebra.specs.Basics.{rank_of, below_of, join_of}
 use Rattle.algebra.specs.HeldPaths.{Held, has_path}
 use Rattle.algebra.specs.Tables.{count_of_parts}
+use Rattle.algebra.proofs.Ranks.{most_rank}
 use Rattle.core_program.specs.Core.{Program, Method}
 use Rattle.fixpoint.specs.Assignments.{AreAtLeast, IsAbove}
 use Rattle.fixpoint.proofs.NoteLemmas.{set_at}
@@ -69,13 +70,6 @@ le_test b c h = grind (arith, nat_tests)
 
 gt_test : (b c : Basic) → below_of b c ≡ false → rank_of c < rank_of b
 gt_test b c h = grind (arith, nat_tests)
-
-rank_most : (b : Basic) → rank_of b ≤ 4
-rank_most Const = omega arith
-rank_most Mover = omega arith
-rank_most Atomic = omega arith
-rank_most Cmpd = omega arith
-rank_most Error = omega arith
 
 -- the tables of the numbers of tables
 row_same : (table : List Basic) → map basic_of (map rank_of table) ≡ table
@@ -210,7 +204,7 @@ room_joined (x ∷ xs) (y ∷ ys) e =
     omega (arith, sum_by-cons (λ b. 4 - rank_of b) (join_of x y) (joined_tables xs ys), sum_by-cons (λ b. 4 - rank_of b) y ys, s, r)
 
 room_less : (x y : Basic) → below_of x y ≡ false → 4 - rank_of x < 4 - rank_of y
-room_less x y e = let g = gt_test x y e in let m = rank_most x in omega arith
+room_less x y e = let g = gt_test x y e in let m = most_rank x in omega arith
 
 room_falls_at : (x y : Basic) (xs ys : List Basic) (t : Bool) → below_of x y ≡ t → length xs ≡ length ys → (t && are_below xs ys) ≡ false → (are_below xs ys ≡ false → room_of (joined_tables xs ys) < room_of ys)
     → (4 - rank_of (if t then y else x)) + room_of (joined_tables xs ys) < (4 - rank_of y) + room_of ys

@@ -1,7 +1,7 @@
 -- Tables over the parts of a list of paths: their entries, place by place.
-use Rattle.std.proofs.Common.{◌≡◌, ℕ, zero, suc, ◌+◌, ◌-◌, ◌/◌, min, Bool, true, false, ◌&&◌, List, [], ◌∷◌, ◌++◌, length, filter, map, take, drop, refl, sym, ap, subst, ◌∙◌, arith, ◌⊎◌, inl, inr, append_assoc, append-nil}
+use Rattle.std.proofs.Common.{◌≡◌, ℕ, zero, suc, ◌+◌, ◌-◌, ◌/◌, Bool, true, false, ◌&&◌, List, [], ◌∷◌, ◌++◌, length, filter, map, take, drop, refl, sym, ap, subst, ◌∙◌, arith, ◌⊎◌, inl, inr, append_assoc, append-nil}
 use Rattle.std.specs.Prelude.{if◌then◌else◌}
-use Rattle.std.proofs.lemmas.List.{length-append, length-take, length-drop}
+use Rattle.std.proofs.lemmas.List.{length-append}
 use Rattle.std.proofs.lemmas.List.Folds.{list_any-append}
 use Rattle.std.proofs.lemmas.Bool.{and_from, or_cases, or_left, or_right}
 use Rattle.paths.specs.Paths.{PathData, path_eq}
@@ -11,7 +11,7 @@ use Rattle.algebra.specs.declared.basic.Basic.TheVariants.{Const}
 use Rattle.algebra.specs.Basics.{below_of, join_of}
 use Rattle.algebra.specs.HeldPaths.{Held, has_path}
 use Rattle.algebra.specs.Tables.{first_entry, half_table, count_of_parts}
-use Rattle.algebra.proofs.Halves.{half_is, half_sizes}
+use Rattle.algebra.proofs.Halves.{half_is, half_sizes, half_lengths}
 use Rattle.rules.specs.Rules.{IsSubset, AtMost}
 use Rattle.rules.proofs.BasicLemmas.{below_itself, below_chain, join_mono}
 use Rattle.rules.proofs.SetLemmas.{first, second}
@@ -161,10 +161,6 @@ below_drop (suc n) (x ∷ xs) (y ∷ ys) e = below_drop n xs ys (second (below_o
 below_half : (b : Bool) (xs ys : List Basic) → length xs ≡ length ys → are_below xs ys ≡ true → are_below (half_table b xs) (half_table b ys) ≡ true
 below_half true xs ys e low = subst (λ n. are_below (half_table true xs) (drop n ys) ≡ true) (ap (λ n. n / 2) e) (below_drop (length xs / 2) xs ys low)
 below_half false xs ys e low = subst (λ n. are_below (half_table false xs) (take n ys) ≡ true) (ap (λ n. n / 2) e) (below_take (length xs / 2) xs ys low)
-
-half_lengths : (b : Bool) (xs ys : List Basic) → length xs ≡ length ys → length (half_table b xs) ≡ length (half_table b ys)
-half_lengths true xs ys e = length-drop (length xs / 2) xs ∙ ap (λ n. n - n / 2) e ∙ sym (length-drop (length ys / 2) ys)
-half_lengths false xs ys e = length-take (length xs / 2) xs ∙ ap (λ n. min (n / 2) n) e ∙ sym (length-take (length ys / 2) ys)
 
 -- a table that is below another has smaller entries
 pub chosen_below : (bits : List Bool) (xs ys : List Basic) → length xs ≡ length ys → are_below xs ys ≡ true → AtMost (chosen bits xs) (chosen bits ys)

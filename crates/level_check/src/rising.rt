@@ -57,8 +57,8 @@ impl Rising for Cells {
     }
 }
 
-/// Raises levels until no link asks for more. First each link is followed once, and then from the greatest level down: so a level rises
-/// once more at most.
+/// Raises levels until no link asks for more. First each link is followed once, and then from the greatest level down, where levels
+/// seldom rise again.
 pub(crate) fn settle(alloc: Global, cells: &mut Cells) -> Result<(), NoMemory>
     ensures { OnOk result (AreGreatest cells.old.rows.items cells.old.levels.items cells.new.levels.items) }
 {

@@ -46,12 +46,12 @@ same_place (z ∷ xs) [] m x e is = absurd (omega arith)
 same_place (z ∷ xs) (y ∷ ys) zero x e is = (y, refl)
 same_place (z ∷ xs) (y ∷ ys) (suc m) x e is = same_place xs ys m x (omega arith) is
 
--- frames that stand for frames are as many
 -- there are as many threads as those that they stand for
 pub threads_long : (P : Program) (code : List Code) (cs : List (ThreadOf CodeFrame)) (ts : List Thread) → ThreadsStand P code cs ts → length cs ≡ length ts
 threads_long P code _ _ no_threads = refl
 threads_long P code _ _ (more_threads c t cs ts one more) = ap suc (threads_long P code cs ts more)
 
+-- frames that stand for frames are as many
 pub as_high : (P : Program) (code : List Code) (fs : List CodeFrame) (gs : List Frame) → FramesStand P code fs gs → length fs ≡ length gs
 as_high P code _ _ no_frames = refl
 as_high P code _ _ (more_frames f work fs gs left stand) = ap suc (as_high P code fs gs stand)

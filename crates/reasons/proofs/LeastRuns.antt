@@ -1,11 +1,10 @@
 -- The least closed assignment of a method is at most what its body and the methods that override it come to: else it could be lowered.
-use Rattle.std.proofs.Common.{◌≡◌, ℕ, Bool, true, false, ◌==◌, List, [], ◌∷◌, Some, slice_get, refl, sym, ap, subst, ◌∙◌, if◌then◌else◌}
+use Rattle.std.proofs.Common.{◌≡◌, ℕ, Bool, true, false, ◌==◌, List, Some, slice_get, refl, sym, ap, subst, ◌∙◌, if◌then◌else◌}
 use Rattle.std.specs.List.{list_all}
-use Rattle.std.proofs.lemmas.Bool.{and_from, or_left, or_right, eqb-true, eq-eqb}
+use Rattle.std.proofs.lemmas.Bool.{and_from, eqb-true, eq-eqb}
 use Rattle.std.proofs.lemmas.Option.{same_Some}
 use Rattle.base.proofs.Lists.{all_at}
-use Rattle.paths.specs.Paths.{PathData, path_eq}
-use Rattle.paths.proofs.PathOrder.{eq_itself}
+use Rattle.paths.specs.Paths.{PathData}
 use Rattle.algebra.specs.declared.basic.Basic.{Basic}
 use Rattle.algebra.specs.declared.basic.Basic.TheVariants.{Const, Mover, Atomic, Cmpd, Error}
 use Rattle.algebra.specs.Basics.{below_of}
@@ -20,7 +19,7 @@ use Rattle.rules.specs.Search.{row_at}
 use Rattle.rules.proofs.BasicLemmas.{below_chain, below_itself}
 use Rattle.rules.proofs.EffectRises.{stmt_rises}
 use Rattle.rules.proofs.Falling.{stmt_falls}
-use Rattle.rules.proofs.SetLemmas.{all_has, all_part, first, second}
+use Rattle.rules.proofs.SetLemmas.{all_has, has_all, all_part, first, second}
 use Rattle.explain.specs.Grounds.{lesser}
 use Rattle.explain.specs.Meanings.{are_within}
 
@@ -79,12 +78,6 @@ bound_atomic true = refl
 bound_atomic false = refl
 
 -- ---- sets
-
--- each path of a list that is part of a set is in the set
-all_in : (ps : List PathData) (H : Held) → IsSubset (has_path ps) H → list_all H ps ≡ true
-all_in [] H part = refl
-all_in (p ∷ ps) H part =
-    and_from (H p) (list_all H ps) (part p (or_left (path_eq p p) (has_path ps p) (eq_itself p))) (all_in ps H (λ q has. part q (or_right (path_eq p q) (has_path ps q) has)))
 
 pub in_rel : (rel : List PathData) (H : Held) → IsSubset (held_in rel H) (has_path rel)
 in_rel rel H q e = first (has_path rel q) (H q) e
@@ -176,4 +169,4 @@ module _ (P : Program) (rel : ℕ → List PathData) (A : Assignment) (rows : Li
   pub within : AtMost (A m begun) limit
   within =
       below_chain (A m begun) (lowered m begun) limit (least.below lowered falls closed m begun inside)
-      (limited_if (m == m) (list_all begun method.requires_) (A m begun) (eq-eqb m m refl) (all_in method.requires_ begun (λ q has. has)))
+      (limited_if (m == m) (list_all begun method.requires_) (A m begun) (eq-eqb m m refl) (has_all method.requires_ begun (λ q has. has)))

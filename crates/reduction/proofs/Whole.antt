@@ -4,6 +4,7 @@ use Rattle.std.specs.Prelude.{Option, map, take, slice_get, count_by, cond, is_s
 use Rattle.std.proofs.lemmas.Bool.{eqb-true, and_from, and_parts, or_right, or_left, eq-eqb}
 use Rattle.std.proofs.lemmas.List.Sums.{sum_by-cons}
 use Rattle.std.proofs.lemmas.Option.{same_Some}
+use Rattle.base.proofs.Options.{unless}
 use Rattle.state.specs.declared.value.StepKind.{StepKind}
 use Rattle.state.specs.declared.value.StepKind.TheVariants.{Both, Right, Left, Other, Bare}
 use Rattle.semantics.specs.Units.{Entry, are_kept, is_of_thread, added, units, is_whole, word_of, in_order, schedule_of}
@@ -16,10 +17,6 @@ use Rattle.reduction.specs.Serial.{IsBlockwise, NobodyInside, IsSerialOrder}
 use Rattle.reduction.proofs.Shape.{Each, flat, has, IsOf, IsFine, each_in_order}
 use Rattle.reduction.proofs.Slides.{fits_there, fits_grow, run_grows}
 use Rattle.reduction.proofs.Sorting.{Rises, NotBare, HasWord, fine_units, words_later, sorted}
-
-unless : (a b : Bool) → (not a || b) ≡ true → a ≡ true → b ≡ true
-unless true b h e = h
-unless false b h e = absurd cc
 
 -- A schedule that runs is a run of its entries.
 module _ {S O : Type 0} (M : System S O) where

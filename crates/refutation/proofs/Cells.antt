@@ -9,8 +9,7 @@ use Rattle.paths.proofs.PathOrder.{eq_is}
 use Rattle.algebra.specs.HeldPaths.{Held, has_path}
 use Rattle.core_program.specs.Core.{Program, Method}
 use Rattle.rules.specs.Rules.{IsSubset}
-use Rattle.rules.proofs.SetLemmas.{first, second}
-use Rattle.rules.proofs.UniqueSets.{first_has}
+use Rattle.rules.proofs.SetLemmas.{has_all, first, second}
 use Rattle.refutation.specs.Certificates.{are_placed}
 use Rattle.refutation.specs.Passes.{with_and_without, subsets_of, MethodAtSet, cells_in, cells_from, cells_of}
 
@@ -78,10 +77,6 @@ parts_pass H (p ∷ ps) e = each_with (λ qs. list_all H qs ≡ true) p (subsets
     (λ qs all. (all, and_from (H p) (list_all H qs) (first (H p) (list_all H ps) e) all))
     (parts_pass H ps (second (H p) (list_all H ps) e)))
 
-part_all : (ps : List PathData) (H : Held) → IsSubset (has_path ps) H → list_all H ps ≡ true
-part_all [] H part = refl
-part_all (p ∷ ps) H part = and_from (H p) (list_all H ps) (part p (first_has p ps)) (part_all ps H (λ q e. part q (or_right (path_eq p q) (has_path ps q) e)))
-
 -- a cell has a method of the program, at relevant paths that have the required ones
 abbrev pub is_placed_cell : Program → (rel : ℕ → List PathData) → MethodAtSet → Bool
 is_placed_cell P rel c = are_placed (slice_get P.methods c.method) (rel c.method) c.held
@@ -92,7 +87,7 @@ module _ (P : Program) (rel : ℕ → List PathData) where
       (each_filter (λ held. are_placed (slice_get P.methods m) (rel m) held ≡ true) (λ held. list_all (has_path held) method.requires_) (subsets_of (rel m))
       (each_implies (λ held. list_all (has_path (rel m)) held ≡ true) (λ held. list_all (has_path held) method.requires_ ≡ true → are_placed (slice_get P.methods m) (rel m) held ≡ true) (subsets_of (rel m))
       (λ held inside required. subst (λ o. are_placed o (rel m) held ≡ true) (sym is) (and_from (list_all (has_path (rel m)) held) (list_all (has_path held) method.requires_) inside required))
-      (parts_pass (has_path (rel m)) (rel m) (part_all (rel m) (has_path (rel m)) (λ q e. e)))))
+      (parts_pass (has_path (rel m)) (rel m) (has_all (rel m) (has_path (rel m)) (λ q e. e)))))
 
   placed_from : (m : ℕ) (methods : List Method) → ((k : ℕ) (method : Method) → slice_get methods k ≡ Some method → slice_get P.methods (m + k) ≡ Some method) → AllByRecursion (λ c. is_placed_cell P rel c ≡ true) (cells_from rel m methods)
   placed_from m [] at = tt
@@ -155,4 +150,4 @@ module _ (P : Program) (rel : ℕ → List PathData) where
   pub at_part : (Q : MethodAtSet → Type 0) → AllByRecursion Q (cells_of P rel) → (m : ℕ) (method : Method) → slice_get P.methods m ≡ Some method → (H : Held)
       → IsSubset H (has_path (rel m)) → IsSubset (has_path method.requires_) H → Q (record { method = m; held = filter H (rel m) })
   at_part Q all m method is H part required = cell_from Q 0 P.methods all m m method is (omega arith) H
-      (part_all method.requires_ (has_path (filter H (rel m))) (subst (λ K. IsSubset (has_path method.requires_) K) (sym (listed (rel m) H part)) required))
+      (has_all method.requires_ (has_path (filter H (rel m))) (subst (λ K. IsSubset (has_path method.requires_) K) (sym (listed (rel m) H part)) required))

@@ -1,8 +1,7 @@
 -- Tables of what is said of all methods that override one.
-use Rattle.std.proofs.Common.{◌≡◌, ℕ, zero, suc, ◌+◌, ◌-◌, ◌/◌, ◌<◌, ◌≤◌, Bool, true, false, List, [], ◌∷◌, ◌++◌, length, take, drop, get_or, slice_set, refl, sym, ap, subst, ◌∙◌, arith}
+use Rattle.std.proofs.Common.{◌≡◌, ℕ, zero, suc, ◌+◌, ◌/◌, ◌<◌, ◌≤◌, Bool, true, false, List, [], ◌∷◌, ◌++◌, length, take, drop, get_or, slice_set, refl, sym, ap, subst, ◌∙◌, arith}
 use Rattle.std.specs.Prelude.{if◌then◌else◌}
 use Rattle.std.proofs.lemmas.Bool.{ne_eqb}
-use Rattle.std.proofs.lemmas.List.{length-take, length-drop}
 use Rattle.paths.specs.Paths.{PathData, path_eq}
 use Rattle.paths.proofs.PathOrder.{eq_is}
 use Rattle.algebra.specs.declared.basic.Basic.{Basic}
@@ -10,6 +9,7 @@ use Rattle.algebra.specs.declared.basic.Basic.TheVariants.{Const, Error}
 use Rattle.algebra.specs.Basics.{join_of}
 use Rattle.algebra.specs.HeldPaths.{Held, has_path}
 use Rattle.algebra.specs.Tables.{half_table}
+use Rattle.algebra.proofs.Halves.{half_lengths}
 use Rattle.core_program.specs.Core.{Program}
 use Rattle.rules.specs.Effect.{Assignment}
 use Rattle.rules.specs.Overriding.{AreOverriders}
@@ -87,17 +87,13 @@ half_joined : (b : Bool) (xs ys : List Basic) → length xs ≡ length ys → ha
 half_joined true xs ys e = ap (λ n. drop (n / 2) (joined_each xs ys)) (joined_length xs ys) ∙ drop_joined (length xs / 2) xs ys e ∙ ap (λ n. joined_each (drop (length xs / 2) xs) (drop (n / 2) ys)) e
 half_joined false xs ys e = ap (λ n. take (n / 2) (joined_each xs ys)) (joined_length xs ys) ∙ take_joined (length xs / 2) xs ys e ∙ ap (λ n. joined_each (take (length xs / 2) xs) (take (n / 2) ys)) e
 
-half_equal : (b : Bool) (xs ys : List Basic) → length xs ≡ length ys → length (half_table b xs) ≡ length (half_table b ys)
-half_equal true xs ys e = let l = length-drop (length xs / 2) xs in let k = length-drop (length ys / 2) ys in omega (arith, l, k, e)
-half_equal false xs ys e = let l = length-take (length xs / 2) xs in let k = length-take (length ys / 2) ys in omega (arith, l, k, e)
-
 -- what tables say together
 pub entry_joined : (rel : List PathData) (xs ys : List Basic) (H : Held) → length xs ≡ length ys → table_entry rel (joined_each xs ys) H ≡ join_of (table_entry rel xs H) (table_entry rel ys H)
 entry_joined [] [] [] H e = refl
 entry_joined [] [] (y ∷ ys) H e = absurd (omega (arith, e))
 entry_joined [] (x ∷ xs) [] H e = absurd (omega (arith, e))
 entry_joined [] (x ∷ xs) (y ∷ ys) H e = refl
-entry_joined (p ∷ ps) xs ys H e = ap (λ t. table_entry ps t H) (half_joined (H p) xs ys e) ∙ entry_joined ps (half_table (H p) xs) (half_table (H p) ys) H (half_equal (H p) xs ys e)
+entry_joined (p ∷ ps) xs ys H e = ap (λ t. table_entry ps t H) (half_joined (H p) xs ys e) ∙ entry_joined ps (half_table (H p) xs) (half_table (H p) ys) H (half_lengths (H p) xs ys e)
 
 -- Methods with the same relevant paths.
 

@@ -6,14 +6,14 @@ use Rattle.std.proofs.Common.{length-append}
 use Rattle.std.proofs.lemmas.Bool.{leb-true, leb-false, ltb-true, ltb-false, true_from_ne_false, false_from_ne_true}
 use Rattle.base.proofs.Lists.{get_last}
 use Rattle.paths.specs.Paths.{PathData}
-use Rattle.algebra.specs.declared.basic.Basic.{Basic}
 use Rattle.algebra.specs.Basics.{rank_of, below_of}
 use Rattle.algebra.specs.HeldPaths.{Held, has_path}
+use Rattle.algebra.proofs.Ranks.{most_rank}
 use Rattle.core_program.specs.Core.{Program, Method}
 use Rattle.rules.specs.Near.{MethodPaths, AreRelevant, AreFew, rel_of}
 use Rattle.rules.specs.Effect.{Assignment, effect}
 use Rattle.rules.specs.Rules.{IsSubset, AtMost, IsClosed, IsAdmissible, IsAccepted}
-use Rattle.rules.proofs.BasicLemmas.{below_chain, below_itself, below_error}
+use Rattle.rules.proofs.BasicLemmas.{below_chain, below_itself}
 use Rattle.refutation.specs.Lines.{LineData, floor, body_effect, joined_over, overriding, certified_up}
 use Rattle.refutation.specs.Certificates.{is_justified, AreCertificateLines, IsCertificate, breaks, keeps_bound, bound_of}
 use Rattle.refutation.specs.Passes.{MethodAtSet, cells_of, LinesWritten, by_tests, floor_at, up_at, line_for, pass, Passes, broke, still, again}
@@ -50,9 +50,6 @@ module _ (P : Program) (rel : ℕ → List PathData) where
   room [] ls = 0
   room (c ∷ cs) ls = (4 - rank_of (floor_at P rel ls c)) + room cs ls
 
-  rank_most : (a : Basic) → rank_of a ≤ 4
-  rank_most a = leb-true (rank_of a) 4 (below_error a)
-
   room_falls : (cells : List MethodAtSet) (ls : List LineData) (l : LineData) → room cells (ls ++ l ∷ []) ≤ room cells ls
   room_falls [] ls l = omega arith
   room_falls (c ∷ cs) ls l =
@@ -70,7 +67,7 @@ module _ (P : Program) (rel : ℕ → List PathData) where
       let more = ls ++ line_for P rel ls c ∷ [] in
       let said = leb-true (rank_of (up_at P rel ls c)) (rank_of (floor_at P rel more c)) (line_said ls c) in
       let rises = leb-false (rank_of (up_at P rel ls c)) (rank_of (floor_at P rel ls c)) new in
-      let most = rank_most (floor_at P rel more c) in
+      let most = most_rank (floor_at P rel more c) in
       let rest = room_falls ds ls (line_for P rel ls c) in
       let here : (4 - rank_of (floor_at P rel more c)) + 1 ≤ 4 - rank_of (floor_at P rel ls c) = omega (arith, said, rises, most) in
       let at_d = subst (λ x. (4 - rank_of (floor_at P rel more x)) + 1 ≤ 4 - rank_of (floor_at P rel ls x)) (sym same) here in

@@ -11,11 +11,11 @@ use Rattle.algebra.specs.Basics.{rank_of, below_of, join_of}
 use Rattle.algebra.specs.HeldPaths.{has_path}
 use Rattle.algebra.specs.Tables.{half_table, count_of_parts}
 use Rattle.algebra.proofs.Halves.{half_sizes}
+use Rattle.algebra.proofs.Ranks.{most_rank}
 use Rattle.core_program.specs.Core.{Program}
 use Rattle.core_program.specs.Dispatch.{Overrides}
 use Rattle.rules.specs.Overriding.{AreOverriders}
 use Rattle.rules.specs.Search.{row_at}
-use Rattle.rules.proofs.BasicLemmas.{below_error}
 use Rattle.refutation.specs.Lines.{LineData, overrides, numbers, overriding}
 use Rattle.refutation.specs.Tables.{table_entry, raised_at_subsets, said_by, IsRaised, TablesSay}
 use Rattle.refutation.specs.Works.{most_work, table_room, work_left, program_work, look_work, rising, IsOverWork}
@@ -29,9 +29,6 @@ room_append (x ∷ xs) ys = let more = room_append xs ys in omega (arith, more)
 -- the room of both halves
 room_halves : (table : List Basic) → table_room (half_table false table) + table_room (half_table true table) ≡ table_room table
 room_halves table = sym (room_append (half_table false table) (half_table true table)) ∙ ap table_room (take-append-drop _ table)
-
-most_rank : (a : Basic) → rank_of a ≤ 4
-most_rank a = leb-true (rank_of a) 4 (below_error a)
 
 -- joining a basic leaves no more room
 join_room : (x b : Basic) → 4 - rank_of (join_of x b) ≤ 4 - rank_of x

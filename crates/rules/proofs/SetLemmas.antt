@@ -2,10 +2,10 @@
 use Rattle.std.proofs.Common.{◌≡◌, ℕ, Bool, true, false, List, [], ◌∷◌, Some, None, refl, sym, ap, subst, ◌∙◌, inl, inr, ◌&&◌, ◌||◌, ◌==◌}
 use Rattle.std.specs.Prelude.{Option, if◌then◌else◌}
 use Rattle.std.specs.List.{list_all}
-use Rattle.std.proofs.lemmas.Bool.{and_from, or_cases}
+use Rattle.std.proofs.lemmas.Bool.{and_from, or_cases, or_left, or_right}
 use Rattle.paths.specs.Paths.{PathData, path_eq, extended}
 use Rattle.paths.specs.Renamings.{under_call}
-use Rattle.paths.proofs.PathOrder.{eq_is}
+use Rattle.paths.proofs.PathOrder.{eq_is, eq_itself}
 use Rattle.algebra.specs.HeldPaths.{Held, has_path, with_path, holds_at}
 use Rattle.core_program.specs.Core.{Program, Stmt, EmptyS, BlockS, LocalS, SetVarS, SetFieldS, DoS, IfS, WhileS, SyncS, ReturnS, PrintS, StartS}
 use Rattle.core_program.specs.Locks.{path_of}
@@ -27,6 +27,13 @@ all_has (p ∷ ps) H a q h = elim (or_cases (path_eq p q) (has_path ps q) h) as 
   | inl same ↦ subst (λ x. H x ≡ true) (eq_is p q same) (first (H p) (list_all H ps) a)
   | inr later ↦ all_has ps H (second (H p) (list_all H ps) a) q later
 ]
+
+-- a test that each path of a list passes, since each is in the set
+pub has_all : (ps : List PathData) (H : Held) → IsSubset (has_path ps) H → list_all H ps ≡ true
+has_all [] H part = refl
+has_all (p ∷ ps) H part =
+    and_from (H p) (list_all H ps) (part p (or_left (path_eq p p) (has_path ps p) (eq_itself p)))
+    (has_all ps H (λ q has. part q (or_right (path_eq p q) (has_path ps q) has)))
 
 and_part : (a b d : Bool) → (b ≡ true → d ≡ true) → (a && b) ≡ true → (a && d) ≡ true
 and_part true b d h e = h e

@@ -2,6 +2,7 @@
 use Rattle.std.proofs.Common.{◌≡◌, ℕ, zero, suc, ◌+◌, Bool, true, false, not, List, [], ◌∷◌, Some, refl, sym, ap, ◌∙◌, arith, ◌==◌, ◌&&◌, ◌||◌}
 use Rattle.std.specs.Prelude.{take, slice_get, option_and_then, IsSome}
 use Rattle.std.proofs.lemmas.Bool.{eqb-true, eq-eqb, and_from, and_parts}
+use Rattle.base.proofs.Options.{unless}
 use Rattle.core_program.specs.Core.{Program}
 use Rattle.state.specs.States.{State, initial}
 use Rattle.semantics.specs.Step.{Outcome, Moves, Absent, IsDone, HadFaulted, Waits, outcome, moved, state_after}
@@ -11,10 +12,6 @@ use Rattle.semantics.specs.Units.{Entry, entry_then, entries_from, entries, are_
 -- kept, by places, in a run from any state
 abbrev Kept : Program → State → List ℕ → Type 0
 Kept P q s = (place t u : ℕ) (r : State) → slice_get s place ≡ Some t → slice_get s (suc place) ≡ Some u → run_from P q (take (suc place) s) ≡ Some r → inside P r t ≡ true → u ≡ t
-
-unless : (a b : Bool) → (not a || b) ≡ true → a ≡ true → b ≡ true
-unless true b h e = h
-unless false b h e = absurd cc
 
 unless_true : (a b : Bool) → (a ≡ true → b ≡ true) → (not a || b) ≡ true
 unless_true true b h = h refl
