@@ -4,3 +4,4 @@ mod Found
 mod Ways
 mod Exactness
 mod Serials
+mod NoteLines

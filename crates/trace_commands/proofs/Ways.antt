@@ -20,6 +20,7 @@ use Rattle.trace_commands.specs.declared.answering.Outcome.{Outcome}
 use Rattle.trace_commands.specs.declared.guarding.Guarding.{Guarding}
 use Rattle.trace_commands.specs.declared.guarding.Guarding.TheVariants as guarding
 use Rattle.trace_commands.specs.Lines.{fault_line, no_line_kind, refused_kind, refused_status, open_kind}
+use Rattle.trace_commands.specs.NoteLines.{AreNotes}
 use Rattle.trace_commands.specs.Outcomes.{Answers, IsCountedLog, IsGivenBy, IsGuarding, IsGuardsText, IsGuessed, IsNamed, IsTraceOutcome, judged, longest_file}
 use Rattle.trace_commands.proofs.Found.{found_changed, found_unread, found_over}
 use Rattle.trace_commands.proofs.Judging.{flipped, moved, not_told, stopped as has_stopped}
@@ -33,10 +34,10 @@ pub row_none : (b : Bool) (now row : List ℕ) → b ≡ (length now == 0) → b
 row_none b now row is off same = sym same ∙ nil_from_length now (eqb-true (length now) 0 (sym is ∙ off))
 
 refused_ok : (guard : ℕ → Guard) (log bytes : List ℕ) (s : Stand) (o : Outcome) (why : RefusalCode) (w : WalkedTo)
-    → ((said : SaidData) → said_of s.row ≡ Some said → (o.status ≡ refused_status (refusal_data why)) × (notes : List ℕ) × (o.text.items ≡ fault_line log s.line (refused_kind said (refusal_data why)) ++ notes))
+    → ((said : SaidData) → said_of s.row ≡ Some said → (o.status ≡ refused_status (refusal_data why)) × (notes : List ℕ) × AreNotes log notes × (o.text.items ≡ fault_line log s.line (refused_kind said (refusal_data why)) ++ notes))
     → walked guard front bytes ≡ w → IsEnd s w (walk.Refused why) → Answers guard log bytes o.status o.text.items
 refused_ok guard log bytes s o why w is leads ends = let found = is ends.0 ends.1 in
-    refused_answers guard log bytes o.status o.text.items s.line ends.0 (refusal_data why) found.1 (leads ∙ ends.2) found.0 found.2
+    refused_answers guard log bytes o.status o.text.items s.line ends.0 (refusal_data why) found.1 found.2 (leads ∙ ends.2) found.0 found.3
 
 module _ {E : Type 0} (guard : ℕ → Guard) (log bytes : List ℕ) (s : Stand) where
   pub cut_off_all : (result : Result Outcome E) (line : ℕ) → walked guard front bytes ≡ Stands s → s.row ≢ [] → line ≡ s.line
@@ -45,8 +46,8 @@ module _ {E : Type 0} (guard : ℕ → Guard) (log bytes : List ℕ) (s : Stand)
   cut_off_all (Err e) line leads broken at is = tt
 
   pub open_all : (result : Result Outcome E) (thread : List ℕ) → walked guard front bytes ≡ Stands s → s.row ≡ [] → s.known.depth (number_of_word thread) ≢ 0
-      → IfOk result (λ o. (o.status ≡ 4) × ((notes : List ℕ) × (o.text.items ≡ fault_line log s.line (open_kind thread) ++ notes))) → IfOk result (λ o. Answers guard log bytes o.status o.text.items)
-  open_all (Ok o) thread leads done within is = open_answers guard log bytes o.status o.text.items s thread is.1.0 leads done within is.0 is.1.1
+      → IfOk result (λ o. (o.status ≡ 4) × ((notes : List ℕ) × AreNotes log notes × (o.text.items ≡ fault_line log s.line (open_kind thread) ++ notes))) → IfOk result (λ o. Answers guard log bytes o.status o.text.items)
+  open_all (Ok o) thread leads done within is = open_answers guard log bytes o.status o.text.items s thread is.1.0 is.1.1 leads done within is.0 is.1.2
   open_all (Err e) thread leads done within is = tt
 
   pub no_line_all : (result : Result Outcome E) (line : ℕ) (end : WalkEnd) (w : WalkedTo) → end ≡ walk.NoLine → line ≡ s.line
@@ -56,7 +57,7 @@ module _ {E : Type 0} (guard : ℕ → Guard) (log bytes : List ℕ) (s : Stand)
   no_line_all (Err e) line end w what at is leads ends = tt
 
   pub refused_all : (result : Result Outcome E) (why : RefusalCode) (end : WalkEnd) (w : WalkedTo) → end ≡ walk.Refused why
-      → ((said : SaidData) → said_of s.row ≡ Some said → IfOk result (λ o. (o.status ≡ refused_status (refusal_data why)) × (notes : List ℕ) × (o.text.items ≡ fault_line log s.line (refused_kind said (refusal_data why)) ++ notes)))
+      → ((said : SaidData) → said_of s.row ≡ Some said → IfOk result (λ o. (o.status ≡ refused_status (refusal_data why)) × (notes : List ℕ) × AreNotes log notes × (o.text.items ≡ fault_line log s.line (refused_kind said (refusal_data why)) ++ notes)))
       → walked guard front bytes ≡ w → IsEnd s w end → IfOk result (λ o. Answers guard log bytes o.status o.text.items)
   refused_all (Ok o) why end w what is leads ends = refused_ok guard log bytes s o why w is leads (subst (λ e. IsEnd s w e) what ends)
   refused_all (Err e) why end w what is leads ends = tt

@@ -2,6 +2,7 @@
 -- to a log (Answers), which status comes exactly where (Exact), and the sentence that the program is for (Sentence). Outcomes serves the proofs.
 pub mod Words
 pub mod Lines
+pub mod NoteLines
 pub mod Answers
 pub mod Outcomes
 pub mod Exact

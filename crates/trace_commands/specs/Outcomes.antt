@@ -10,6 +10,7 @@ use Rattle.trace_commands.specs.declared.guarding.Guarding.{Guarding}
 use Rattle.trace_commands.specs.declared.guarding.Guarding.TheVariants as ends
 use Rattle.trace_commands.specs.Answers.{IsAnswer}
 use Rattle.trace_commands.specs.Lines.{fault_line, no_guards_kind}
+use Rattle.trace_commands.specs.NoteLines.{AreNotes}
 
 -- how many bytes a log and a file of guards may have: 256 MB
 abbrev pub longest_file : ℕ
@@ -19,11 +20,13 @@ longest_file = 268435456
 abbrev pub IsNamed : (log : List ℕ) → (guards : Option (List ℕ)) → (name : List ℕ) → Type 0
 IsNamed log guards name = (name ≡ log) ⊎ (guards ≡ Some name)
 
--- the status and the text belong to a log of these bytes, where places have these guards: the text is the first line that belongs to it, and notes
+-- the status and the text belong to a log of these bytes, where places have these guards: the text is the first line that belongs to it, and then
+-- notes, each a line with a place of the log
 pub record Answers (guard : ℕ → Guard) (log bytes : List ℕ) (status : ℕ) (text : List ℕ) : Type 0 where
   pub line : List ℕ
   pub answer : IsAnswer guard log bytes status line
   pub notes : List ℕ
+  pub are_notes : AreNotes log notes
   pub text_is : text ≡ line ++ notes
 
 -- what was found of a log by these guards: the bytes by which it was judged, which are the file's where that is told, and the answer, with notes

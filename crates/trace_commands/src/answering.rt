@@ -9,6 +9,7 @@ ghost use Rattle.logs.specs.Walks.{Stands, WalkedTo, front, walked};
 ghost use Rattle.logs.specs.Logs.{Guard};
 ghost use Rattle.logs.specs.Views.{guards_data};
 ghost use Rattle.log_reading.specs.Reading.{IsReadEnd};
+ghost use Rattle.trace_commands.specs.NoteLines.{AreNotes};
 ghost use Rattle.trace_commands.specs.Outcomes.{Answers, IsCountedLog, IsGivenBy, IsGuessed, is_some_other, IsTraceOutcome, longest_file};
 
 use crate::lines::{fault_line, open_kind, refused_kind, refused_status};
@@ -38,7 +39,7 @@ fn no_line(alloc: Global, log: &str, line: u64) -> Result<Outcome, NoMemory>
 
 /// A thread is still inside a block at the end.
 fn open_block(alloc: Global, log: &str, walk: &Walk, thread: &[u8]) -> Result<Outcome, NoMemory>
-    ensures { IfOk result (λ o. (o.status ≡ 4) × ((notes : List ℕ) × (o.text.items ≡ fault_line_of log.now walk.now.line (open_kind_of thread.now) ++ notes))) }
+    ensures { IfOk result (λ o. (o.status ≡ 4) × ((notes : List ℕ) × AreNotes log.now notes × (o.text.items ≡ fault_line_of log.now walk.now.line (open_kind_of thread.now) ++ notes))) }
 {
     let kind = open_kind(alloc, thread)?;
     let mut text = fault_line(alloc, log, walk.line(), kind.as_slice())?;
@@ -73,7 +74,7 @@ fn refused(
     why: Refusal,
 ) -> Result<Outcome, NoMemory>
     ensures { (said : SaidData) → said_of walk.now.row.items ≡ Some said → IfOk result (λ o. (o.status ≡ refused_status_of (refusal_data why)) ×
-        (notes : List ℕ) × (o.text.items ≡ fault_line_of log.now walk.now.line (refused_kind_of said (refusal_data why)) ++ notes)) }
+        (notes : List ℕ) × AreNotes log.now notes × (o.text.items ≡ fault_line_of log.now walk.now.line (refused_kind_of said (refusal_data why)) ++ notes)) }
 {
     let Some(said) = read_line(walk.row()) else {
         return Err(NoMemory);
