@@ -70,7 +70,7 @@ part_of Q (p ∷ ps) H all =
     elim (H p) as (λ b. Q (if b then p ∷ filter H ps else filter H ps)) [ true ↦ both.1 | false ↦ both.0 ]
 
 -- each part of a list passes a test that each path of the list passes
-parts_pass : (H : Held) (ps : List PathData) → list_all H ps ≡ true → AllByRecursion (λ qs. list_all H qs ≡ true) (subsets_of ps)
+pub parts_pass : (H : Held) (ps : List PathData) → list_all H ps ≡ true → AllByRecursion (λ qs. list_all H qs ≡ true) (subsets_of ps)
 parts_pass H [] e = (refl, tt)
 parts_pass H (p ∷ ps) e = each_with (λ qs. list_all H qs ≡ true) p (subsets_of ps)
     (each_implies (λ qs. list_all H qs ≡ true) (λ qs. (list_all H qs ≡ true) × (list_all H (p ∷ qs) ≡ true)) (subsets_of ps)

@@ -2,8 +2,8 @@
 -- floors (FloorLaws), the cells of a program (Cells) and passes (PassLaws); of the calls, rows of overriding methods (RowLemmas), tables
 -- (TableLemmas), methods that needn't be asked again (WaitLemmas), and those that wait within
 -- a range (Ranges), the maker (MakerLemmas), lines that are said already (Known) and the
--- checker (CheckLemmas), with the work that it takes (Rooms, Cheap) and what a line reaches (Reached); and tables of what is said of all
--- that override (OverTables).
+-- checker (CheckLemmas), with the work that it takes (Rooms, Cheap) and what a line reaches (Reached); tables of what is said of groups
+-- of methods (GroupTables), and of all that override one (OverTables).
 pub mod Sets
 pub mod Over
 pub mod Below
@@ -20,6 +20,7 @@ pub mod CheckLemmas
 mod Rooms
 mod Cheap
 mod Reached
+mod GroupTables
 mod OverTables
 -- Lemmas on texts of certificates: held paths (Held), lines (Lines), and whole texts (TextLaws).
 pub mod Held

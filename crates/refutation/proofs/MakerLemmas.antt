@@ -13,7 +13,7 @@ use Rattle.core_program.specs.Core.{Program}
 use Rattle.core_program.specs.declared.program.CoreMethod.{CoreMethod}
 use Rattle.core_program.specs.Views.{method_of}
 use Rattle.rules.specs.Near.{MethodPaths, AreRelevant, rel_of, rel_paths}
-use Rattle.rules.specs.Rules.{AtMost}
+use Rattle.rules.specs.Rules.{IsSubset, AtMost}
 use Rattle.refutation.specs.Lines.{LineData, AreAscending, floor, overriding, joined_over, certified_effect}
 use Rattle.refutation.specs.Certificates.{keeps_bound}
 use Rattle.refutation.specs.Passes.{MethodAtSet, cells_in, cells_from, cells_of, subsets_of, LinesWritten, by_tests, floor_at, up_at, line_for, pass, Passes, broke, still, again}
@@ -21,7 +21,8 @@ use Rattle.refutation.specs.Tables.{table_entry, said_by, TablesSay}
 use Rattle.refutation.specs.Ends.{cells_at, continued, IsPass, KeptAgrees, IsGoing}
 use Rattle.refutation.specs.Overs.{IsSaidOver}
 use Rattle.refutation.specs.Waiting.{IsMostOver}
-use Rattle.refutation.proofs.Cells.{each_with, each_filter, each_implies}
+use Rattle.rules.proofs.SetLemmas.{all_has, has_all}
+use Rattle.refutation.proofs.Cells.{each_with, each_filter, each_implies, parts_pass}
 use Rattle.refutation.proofs.PassLaws.{room, whole_is, no_lines}
 
 -- the relevant paths of a method ascend, and so do their parts
@@ -57,6 +58,13 @@ asked_ascend P sets m rel required parts relevant is kept = subst (AllByRecursio
     (each_implies (IsStrictlySortedBy path_order) (λ qs. list_all (has_path qs) required ≡ true → IsStrictlySortedBy path_order qs) (subsets_of rel) (λ qs s e. s)
     (subst (λ ps. AllByRecursion (IsStrictlySortedBy path_order) (subsets_of ps)) (sym is) (parts_ascend (rel_of sets m) (rel_ascend P sets relevant m)))))
 
+-- and have none but its relevant paths
+pub asked_inside : (rel required : List PathData) (parts : List (List PathData)) → parts ≡ filter (λ held. list_all (has_path held) required) (subsets_of rel) → AllByRecursion (λ held. IsSubset (has_path held) (has_path rel)) parts
+asked_inside rel required parts kept = subst (AllByRecursion (λ held. IsSubset (has_path held) (has_path rel))) (sym kept)
+    (each_filter (λ held. IsSubset (has_path held) (has_path rel)) (λ held. list_all (has_path held) required) (subsets_of rel)
+    (each_implies (λ held. list_all (has_path rel) held ≡ true) (λ held. list_all (has_path held) required ≡ true → IsSubset (has_path held) (has_path rel)) (subsets_of rel) (λ held all e. all_has held (has_path rel) all)
+    (parts_pass (has_path rel) rel (has_all rel (has_path rel) (λ q e. e)))))
+
 module _ (P : Program) (sets kept : List MethodPaths) (rows : List (List Basic)) (lines : List LineData) (agrees : KeptAgrees P sets kept rows lines) where
   -- what is said is the floor of the lines
   said_is : said_by (rel_of kept) rows ≡ floor (rel_of sets) lines
@@ -69,7 +77,7 @@ module _ (P : Program) (sets kept : List MethodPaths) (rows : List (List Basic))
   -- so is a table of what is said of them
   pub said_kept : (m : ℕ) (table : List Basic) (whole : Bool) (most : Basic) → IsSaidOver P (rel_of sets) (floor (rel_of sets) lines) m table whole most → IsSaidOver P (rel_of kept) (said_by (rel_of kept) rows) m table whole most
   said_kept m table whole most is = record {
-    each = λ e H. (λ i. table_entry (rel_of (agrees.same i) m) table H) ∙ is.each e H ∙ sym (λ i. joined_over (rel_of (agrees.same i)) (said_is i) (overriding P m) H);
+    each = λ e H part. (λ i. table_entry (rel_of (agrees.same i) m) table H) ∙ is.each e H (subst (λ s. IsSubset H (has_path (rel_of s m))) agrees.same part) ∙ sym (λ i. joined_over (rel_of (agrees.same i)) (said_is i) (overriding P m) H);
     low = λ H. most_said m most H is.low;
   }
 

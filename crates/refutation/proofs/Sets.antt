@@ -39,6 +39,9 @@ join_assoc a b c = both_below _ _
 pub join_const : (a : Basic) → join_of a Const ≡ a
 join_const a = both_below _ _ (join_least a Const a (below_itself a) (below_const a)) (join_first a Const)
 
+pub const_joined : (b : Basic) → join_of Const b ≡ b
+const_joined b = both_below (join_of Const b) b (join_least Const b b (below_const b) (below_itself b)) (join_second Const b)
+
 -- a choice between a basic and the least one
 pub choice_low : (t : Bool) (a b : Basic) → (t ≡ true → AtMost a b) → AtMost (if t then a else Const) b
 choice_low true a b h = h refl

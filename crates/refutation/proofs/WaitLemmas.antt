@@ -143,7 +143,7 @@ module _ (P : Program) (rel : ℕ → List PathData) where
   -- so a table of what is said of them tells it still
   pub over_stays : (m : ℕ) (table : List Basic) (whole : Bool) (most : Basic) (old new : List LineData) → Adds m old new → IsSaidOver P rel (floor rel old) m table whole most → IsSaidOver P rel (floor rel new) m table whole most
   over_stays m table whole most old new adds is = record {
-    each = λ e H. is.each e H ∙ joined_stays m old new adds H;
+    each = λ e H part. is.each e H part ∙ joined_stays m old new adds H;
     low = most_stays m most old new adds is.low;
   }
 

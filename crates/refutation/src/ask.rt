@@ -7,7 +7,7 @@ ghost use Rattle.algebra.specs.HeldPaths.{has_path};
 ghost use Rattle.core_program.specs.Views.{program_of, method_of};
 ghost use Rattle.rules.specs.Near.{AreRelevant, rel_of};
 ghost use Rattle.rules.specs.Overriding.{AreOverriders};
-ghost use Rattle.rules.specs.Rules.{AtMost};
+ghost use Rattle.rules.specs.Rules.{IsSubset, AtMost};
 ghost use Rattle.refutation.specs.Lines.{floor, overriding, joined_over};
 ghost use Rattle.refutation.specs.Tables.{said_by};
 ghost use Rattle.refutation.specs.Passes.{cells_in, subsets_of};
@@ -45,6 +45,7 @@ fn ask(
     requires said { let rel = rel_of judged.now.sets.now in IsSaidOver (program_of judged.now.program.now) rel (floor rel said.old.lines.items) method over.now.table over.now.whole over.now.most }
     requires agrees { KeptAgrees (program_of judged.now.program.now) judged.now.sets.now said.old.floors.sets.now said.old.floors.tables.items said.old.lines.items }
     requires ascends { IsStrictlySortedBy path_order held.now }
+    requires inside { IsSubset (has_path held.now) (has_path (rel_of judged.now.sets.now method)) }
     ensures agrees { OnOk result (KeptAgrees (program_of judged.now.program.now) judged.now.sets.now said.new.floors.sets.now said.new.floors.tables.items said.new.lines.items) }
     ensures adds { OnOk result (Adds method said.old.lines.items said.new.lines.items) }
     ensures asked { IfOk result (λ broken. IsPass (program_of judged.now.program.now) (rel_of judged.now.sets.now) (record { method = method; held = held.now } ∷ []) said.old.lines.items said.new.lines.items broken) }
@@ -77,6 +78,7 @@ fn ask_sets(
     requires said { let rel = rel_of judged.now.sets.now in IsSaidOver (program_of judged.now.program.now) rel (floor rel said.old.lines.items) method over.now.table over.now.whole over.now.most }
     requires agrees { KeptAgrees (program_of judged.now.program.now) judged.now.sets.now said.old.floors.sets.now said.old.floors.tables.items said.old.lines.items }
     requires ascend { AllByRecursion (IsStrictlySortedBy path_order) parts.now }
+    requires inside { AllByRecursion (λ held. IsSubset (has_path held) (has_path (rel_of judged.now.sets.now method))) parts.now }
     ensures agrees { OnOk result (KeptAgrees (program_of judged.now.program.now) judged.now.sets.now said.new.floors.sets.now said.new.floors.tables.items said.new.lines.items) }
     ensures adds { OnOk result (Adds method said.old.lines.items said.new.lines.items) }
     ensures asked { IfOk result (λ broken. IsPass (program_of judged.now.program.now) (rel_of judged.now.sets.now) (cells_at method parts.now) said.old.lines.items said.new.lines.items broken) }

@@ -5,6 +5,7 @@ ghost use Rattle.algebra.specs.HeldPaths.{has_path};
 ghost use Rattle.core_program.specs.Views.{program_of};
 ghost use Rattle.rules.specs.Near.{rel_of};
 ghost use Rattle.rules.specs.Overriding.{AreOverriders};
+ghost use Rattle.rules.specs.Rules.{IsSubset};
 ghost use Rattle.refutation.specs.Lines.{LineData, certified_effect};
 ghost use Rattle.refutation.specs.Overs.{TellsOver};
 ghost use Rattle.refutation.specs.Tables.{TablesSay, said_by};
@@ -127,7 +128,7 @@ fn is_reached(
         OnOk result (TellsOver (program_of judged.now.program.now) rel (said_by rel floors.now.tables.items) looks.new.known.method looks.new.known.table looks.new.known.whole) }
     ensures work { let look = look_work (program_of judged.now.program.now) line.now.method in
         IfOk result (λ told. MatchOption told (looks.old.left < look) (λ _. looks.old.left ≤ looks.new.left + look)) }
-    ensures reached { let rel = rel_of judged.now.sets.now in floors.now.sets.now ≡ judged.now.sets.now →
+    ensures reached { let rel = rel_of judged.now.sets.now in floors.now.sets.now ≡ judged.now.sets.now → IsSubset (has_path held.now) (has_path (rel line.now.method)) →
         IfOk result (λ told. IfSome told (λ b. b ≡ below_of line.now.found (certified_effect (program_of judged.now.program.now) rel (said_by rel floors.now.tables.items) line.now.method (has_path held.now)))) }
 {
     let method = line.method;

@@ -7,6 +7,7 @@ mod ask;
 mod check;
 mod faults;
 mod floors;
+mod groups;
 mod judged;
 mod laws;
 mod line;

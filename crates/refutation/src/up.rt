@@ -5,7 +5,7 @@ ghost use Rattle.algebra.specs.HeldPaths.{has_path};
 ghost use Rattle.core_program.specs.Views.{program_of};
 ghost use Rattle.rules.specs.Near.{rel_of};
 ghost use Rattle.rules.specs.Overriding.{AreOverriders};
-ghost use Rattle.rules.specs.Rules.{AtMost};
+ghost use Rattle.rules.specs.Rules.{IsSubset, AtMost};
 ghost use Rattle.refutation.specs.Lines.{body_effect, joined_over, certified_effect};
 ghost use Rattle.refutation.specs.Overs.{IsSaidOver};
 ghost use Rattle.refutation.specs.Tables.{said_by};
@@ -75,6 +75,7 @@ pub(crate) fn run_effect(
 ) -> Result<Basic, NoMemory>
     requires over { AreOverriders (program_of judged.now.program.now) judged.now.over.now }
     requires same { floors.now.sets.now ≡ judged.now.sets.now }
+    requires inside { IsSubset (has_path held.now) (has_path (rel_of judged.now.sets.now method)) }
     requires said { let rel = rel_of floors.now.sets.now in IsSaidOver (program_of judged.now.program.now) rel (said_by rel floors.now.tables.items) method over.now.table over.now.whole over.now.most }
     ensures { IfOk result (λ b.
         b ≡ certified_effect (program_of judged.now.program.now) (rel_of judged.now.sets.now) (said_by (rel_of floors.now.sets.now) floors.now.tables.items) method (has_path held.now)) }

@@ -1,10 +1,13 @@
 -- The parts of the relevant paths ascend, and what is said of the methods that override is that of the lines so far.
 use Rattle.std.proofs.Common.{◌∙◌, subst}
+use Rattle.std.specs.List.{AllByRecursion}
+use Rattle.algebra.specs.HeldPaths.{has_path}
 use Rattle.core_program.specs.Views.{program_of}
 use Rattle.rules.specs.Near.{rel_of}
+use Rattle.rules.specs.Rules.{IsSubset}
 use Rattle.refutation.specs.Lines.{floor}
 use Rattle.refutation.specs.Overs.{IsSaidOver}
-use Rattle.refutation.proofs.MakerLemmas.{asked_ascend}
+use Rattle.refutation.proofs.MakerLemmas.{asked_ascend, asked_inside}
 use Rattle.refutation.proofs.ask.ask_method.Goals as goal
 
 pub ask_sets-requires-clause-ascend : goal.ask_sets-requires-clause-ascend
@@ -17,3 +20,10 @@ ask_sets-requires-clause-said c =
     let agrees = c.requires.agrees in
     subst (λ s. IsSaidOver (program_of c.args.judged.now.program.now) (rel_of s) (floor (rel_of s) c.args.said.now.lines.items) c.args.id c.in_ok-over.over.table c.in_ok-over.over.whole c.in_ok-over.over.most) agrees.same
     (c.in_ok-over.ensures c.args.said.now.lines.items agrees.says)
+
+pub ask_sets-requires-clause-inside : goal.ask_sets-requires-clause-inside
+ask_sets-requires-clause-inside c =
+    let rel = c.rel.result.now in
+    let parts = c.as_slice-2.result.now in
+    subst (λ ps. AllByRecursion (λ held. IsSubset (has_path held) (has_path ps)) parts) c.rel.ensures
+    (asked_inside rel c.as_slice.result.now parts (c.as_slice-2.ensures.value ∙ c.in_ok-parts.ensures))

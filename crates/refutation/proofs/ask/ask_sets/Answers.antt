@@ -4,8 +4,10 @@ use Rattle.std.specs.List.{AllByRecursion}
 use Rattle.std.specs.List.Sorted.{IsStrictlySortedBy}
 use Rattle.base.proofs.Lists.{next_drop}
 use Rattle.paths.specs.Paths.{path_order}
+use Rattle.algebra.specs.HeldPaths.{has_path}
 use Rattle.core_program.specs.Views.{program_of}
 use Rattle.rules.specs.Near.{rel_of}
+use Rattle.rules.specs.Rules.{IsSubset}
 use Rattle.refutation.specs.Ends.{cells_at, continued}
 use Rattle.refutation.proofs.MakerLemmas.{sets_step}
 use Rattle.refutation.proofs.WaitLemmas.{adds_both, over_stays}
@@ -27,6 +29,7 @@ loop-part-preserved c =
     record {
       agrees = c.in_ok-ask.ensures.agrees;
       ascend = (subst (AllByRecursion (IsStrictlySortedBy path_order)) (next_drop parts k c.part-item.result c.loop-part-test.true c.part-item.is) before.ascend).1;
+      inside = (subst (AllByRecursion (λ held. IsSubset (has_path held) (has_path (rel c.args.method)))) (next_drop parts k c.part-item.result c.loop-part-test.true c.part-item.is) before.inside).1;
       adds = adds_both c.args.method c.args.said.now.lines.items c.loop-part.said.lines.items c.ask.new.said.lines.items before.adds c.in_ok-ask.ensures.adds;
       asked = λ cs. before.asked cs
           ∙ sets_step P rel c.args.method parts k c.part-item.result c.as_slice-held.result.now c.loop-part.said.lines.items c.ask.new.said.lines.items c.in_ok-ask.field-0 c.loop-part-test.true c.part-item.is

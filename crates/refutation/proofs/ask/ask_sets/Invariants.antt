@@ -2,8 +2,10 @@ use Rattle.std.proofs.Common.{◌≡◌, ◌++◌, drop, List}
 use Rattle.std.specs.List.{AllByRecursion}
 use Rattle.std.specs.List.Sorted.{IsStrictlySortedBy}
 use Rattle.paths.specs.Paths.{path_order}
+use Rattle.algebra.specs.HeldPaths.{has_path}
 use Rattle.core_program.specs.Views.{program_of}
 use Rattle.rules.specs.Near.{rel_of}
+use Rattle.rules.specs.Rules.{IsSubset}
 use Rattle.refutation.specs.Passes.{MethodAtSet, pass}
 use Rattle.refutation.specs.Ends.{KeptAgrees, cells_at}
 use Rattle.refutation.specs.Waiting.{Adds}
@@ -16,6 +18,7 @@ invariant-loop-part l =
     record {
       agrees : KeptAgrees P l.judged.sets.now l.said.floors.sets.now l.said.floors.tables.items l.said.lines.items;
       ascend : AllByRecursion (IsStrictlySortedBy path_order) (drop l.part-index l.parts);
+      inside : AllByRecursion (λ held. IsSubset (has_path held) (has_path (rel l.method))) (drop l.part-index l.parts);
       adds : Adds l.method l.fn.said.lines.items l.said.lines.items;
       asked : (cs : List MethodAtSet) → pass P rel (cells_at l.method l.parts ++ cs) l.fn.said.lines.items ≡ pass P rel (cells_at l.method (drop l.part-index l.parts) ++ cs) l.said.lines.items;
     }

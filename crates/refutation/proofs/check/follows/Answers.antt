@@ -4,10 +4,12 @@ use Rattle.algebra.specs.Basics.{below_of}
 use Rattle.algebra.specs.HeldPaths.{has_path}
 use Rattle.core_program.specs.Views.{program_of}
 use Rattle.rules.specs.Near.{rel_of}
+use Rattle.rules.specs.Rules.{IsSubset}
 use Rattle.refutation.specs.Lines.{LineData, certified_effect}
 use Rattle.refutation.specs.Tables.{said_by, IsRaised, TablesSay}
 use Rattle.refutation.specs.Overs.{TellsOver}
 use Rattle.refutation.specs.Works.{look_work}
+use Rattle.refutation.proofs.Below.{placed_is}
 use Rattle.refutation.proofs.CheckLemmas.{follows_known, follows_not, follows_new}
 use Rattle.refutation.proofs.Reached.{told_is, told_spent, told_none}
 use Rattle.refutation.proofs.OverTables.{tells_still}
@@ -32,7 +34,8 @@ returns-then-not-reached-clause-follows c = λ before same says lines placed.
     let l = c.args.line.now in
     let held = c.as_slice-held.ensures.value ∙ c.in_ok-paths.ensures ∙ c.as_slice.ensures.value ∙ ap (λ (x : LineData). x.held) c.line.view_is in
     let fails : c.in-Some.reached ≡ false = search rules in
-    let told = told_is c.in_ok-reached.field-0 c.in-Some.reached (below_of l.found (certified_effect P rel (said_by rel tables) l.method (has_path c.as_slice-held.result.now))) c.in-Some.is (c.in_ok-reached.ensures.reached same) in
+    let inside = subst (λ ps. IsSubset (has_path ps) (has_path (rel l.method))) (sym held) (placed_is P rel l placed).relevant in
+    let told = told_is c.in_ok-reached.field-0 c.in-Some.reached (below_of l.found (certified_effect P rel (said_by rel tables) l.method (has_path c.as_slice-held.result.now))) c.in-Some.is (c.in_ok-reached.ensures.reached same inside) in
     let asked = told ∙ (λ i. below_of l.found (certified_effect P rel (said_by (rel_of (sym same i)) tables) l.method (has_path (held i)))) in
     follows_not P c.args.judged.now.sets.now kept tables l l.found (certified_effect P rel (said_by (rel_of kept) tables) l.method (has_path l.held)) refl tables
     c.in-Some.reached refl asked fails before same says lines placed
@@ -48,7 +51,8 @@ returns-clause-follows c = λ before same says lines placed.
     let method = ap (λ (x : LineData). x.method) c.line.view_is in
     let found = ap (λ (x : LineData). x.found) c.line.view_is in
     let passes : c.in-Some.reached ≡ true = search rules in
-    let told = told_is c.in_ok-reached.field-0 c.in-Some.reached (below_of l.found (certified_effect P rel (said_by rel tables) l.method (has_path c.as_slice-held.result.now))) c.in-Some.is (c.in_ok-reached.ensures.reached same) in
+    let inside = subst (λ ps. IsSubset (has_path ps) (has_path (rel l.method))) (sym held) (placed_is P rel l placed).relevant in
+    let told = told_is c.in_ok-reached.field-0 c.in-Some.reached (below_of l.found (certified_effect P rel (said_by rel tables) l.method (has_path c.as_slice-held.result.now))) c.in-Some.is (c.in_ok-reached.ensures.reached same inside) in
     let asked = told ∙ (λ i. below_of l.found (certified_effect P rel (said_by (rel_of (sym same i)) tables) l.method (has_path (held i)))) in
     follows_new P c.args.judged.now.sets.now kept tables l l.found (certified_effect P rel (said_by (rel_of kept) tables) l.method (has_path l.held)) refl c.add.new.self.sets.now c.add.new.self.tables.items
     c.in-Some.reached refl asked passes

@@ -1,9 +1,11 @@
 -- What the body reaches, else what is said of the methods that override it; and what the looks take.
-use Rattle.std.proofs.Common.{◌≡◌, ◌+◌, ◌*◌, true, false, length, slice_get, rules, refl, ap, sym, ◌∙◌, arith}
+use Rattle.std.proofs.Common.{◌≡◌, ℕ, ◌+◌, ◌*◌, true, false, List, length, slice_get, rules, refl, ap, sym, subst, ◌∙◌, arith}
+use Rattle.paths.specs.Paths.{PathData}
 use Rattle.algebra.specs.Basics.{below_of, join_of}
 use Rattle.algebra.specs.HeldPaths.{has_path}
 use Rattle.core_program.specs.Views.{program_of}
 use Rattle.rules.specs.Near.{rel_of}
+use Rattle.rules.specs.Rules.{IsSubset}
 use Rattle.refutation.specs.Lines.{LineData, overriding, body_effect, joined_over, certified_effect}
 use Rattle.refutation.specs.Tables.{said_by, table_entry}
 use Rattle.refutation.specs.Works.{body_work, look_work}
@@ -60,7 +62,7 @@ returns-clause-work c =
     omega (arith, same, look, c.body_cost.ensures, c.spend.ensures.spent some, c.in_ok-renew.ensures.spent more)
 
 pub returns-then-below-clause-reached : goal.returns-then-below-clause-reached
-returns-then-below-clause-reached c = λ same.
+returns-then-below-clause-reached c = λ same inside.
     let P = program_of c.args.judged.now.program.now in
     let rel = rel_of c.args.judged.now.sets.now in
     let A = said_by rel c.args.floors.now.tables.items in
@@ -73,7 +75,7 @@ returns-then-below-clause-reached c = λ same.
     ∙ (λ i. below_of (found i) (certified_effect P rel A (method i) H))
 
 pub returns-clause-reached : goal.returns-clause-reached
-returns-clause-reached c = λ same.
+returns-clause-reached c = λ same inside.
     let P = program_of c.args.judged.now.program.now in
     let rel = rel_of c.args.judged.now.sets.now in
     let tables = c.args.floors.now.tables.items in
@@ -90,7 +92,7 @@ returns-clause-reached c = λ same.
     ∙ (λ i. below_of (found i) (certified_effect P rel (said_by rel tables) (method i) H))
 
 pub returns-then-looks-clause-reached : goal.returns-then-looks-clause-reached
-returns-then-looks-clause-reached c = λ same.
+returns-then-looks-clause-reached c = λ same inside.
     let P = program_of c.args.judged.now.program.now in
     let rel = rel_of c.args.judged.now.sets.now in
     let kept = rel_of c.args.floors.now.sets.now in
@@ -103,8 +105,9 @@ returns-then-looks-clause-reached c = λ same.
     let found = ap (λ (x : LineData). x.found) c.line.view_is in
     let whole : known.whole ≡ true = search rules in
     let more : c.in_ok-renew.field-0 ≡ true = search rules in
-    let tells = c.in_ok-renew.ensures.known whole H in
     let its = c.in_ok-renew.ensures.its more in
+    let part = subst (λ (R : ℕ → List PathData). IsSubset H (has_path (R known.method))) (λ i. rel_of (sym same i)) (subst (λ n. IsSubset H (has_path (rel n))) (sym (its ∙ method)) inside) in
+    let tells = c.in_ok-renew.ensures.known whole H part in
     let table = c.as_slice.ensures.value ∙ ap (λ (x : Looks). x.known.table) c.looks.view_is in
     let others = c.entry-others.ensures ∙ (λ i. table_entry ((c.rel.ensures ∙ ap kept (sym its)) i) (table i) H) ∙ tells
     ∙ (λ i. joined_over (rel_of (same i)) (said_by (rel_of (same i)) tables) (overriding P (its i)) H) in

@@ -1,12 +1,19 @@
 -- A table of them all.
 use Rattle.std.proofs.Common.{◌≡◌, length, ap, sym, subst, ◌∙◌}
-use Rattle.algebra.specs.HeldPaths.{Held}
+use Rattle.algebra.specs.HeldPaths.{Held, has_path}
 use Rattle.core_program.specs.Views.{program_of}
 use Rattle.rules.specs.Near.{rel_of}
+use Rattle.rules.specs.Rules.{IsSubset}
 use Rattle.refutation.specs.Lines.{overriding, joined_over}
 use Rattle.refutation.specs.Tables.{said_by, table_entry}
-use Rattle.refutation.proofs.OverTables.{tells_all, given_back}
+use Rattle.refutation.specs.Overs.{said_in_groups}
+use Rattle.refutation.proofs.OverTables.{tells_all}
+use Rattle.refutation.proofs.RowLemmas.{whole_written}
+use Rattle.refutation.proofs.TableLemmas.{consts_length}
 use Rattle.refutation.proofs.overs.over_table.Goals as goal
+
+pub join_groups-whole-requires : goal.join_groups-whole-requires
+join_groups-whole-requires c = ap length (c.as_mut_slice.ensures.value ∙ c.in_ok-basics.ensures) ∙ consts_length c.rel-rel.result.now
 
 pub returns-clause-tells : goal.returns-clause-tells
 returns-clause-tells c = λ whole.
@@ -14,8 +21,9 @@ returns-clause-tells c = λ whole.
     let rel = rel_of c.args.floors.now.sets.now in
     let tables = c.args.floors.now.tables.items in
     let basics = c.in_ok-basics.basics in
-    let table = c.join_all-whole.new.table in
-    let tells = tells_all P rel tables c.args.judged.now.over.now c.args.method c.of.result.now c.rel-rel.result.now c.as_mut_slice.result.now table
-    c.requires c.of.ensures c.rel-rel.ensures (c.as_mut_slice.ensures.value ∙ c.in_ok-basics.ensures) (c.join_all-whole.ensures whole) in
-    let size : length table ≡ length basics.items = c.join_all-whole.auto.table ∙ ap length c.as_mut_slice.ensures.value in
-    subst (λ t. (H : Held) → table_entry (rel c.args.method) t H ≡ joined_over rel (said_by rel tables) (overriding P c.args.method) H) (sym (given_back basics.len table basics.items size basics.ok.0)) tells
+    let table = c.join_groups-whole.new.table in
+    let tells = tells_all P rel tables c.args.judged.now.over.now c.args.method c.of.result.now c.rel-rel.result.now c.as_mut_slice.result.now table c.as_slice.result.now
+    c.requires c.of.ensures c.rel-rel.ensures (c.as_mut_slice.ensures.value ∙ c.in_ok-basics.ensures)
+    (λ H. ap (λ gs. said_in_groups rel gs H) c.as_slice.ensures.value ∙ c.in_ok-groups.ensures H) (c.join_groups-whole.ensures whole) in
+    let size : length table ≡ length basics.items = c.join_groups-whole.auto.table ∙ ap length c.as_mut_slice.ensures.value in
+    subst (λ t. (H : Held) → IsSubset H (has_path (rel c.args.method)) → table_entry (rel c.args.method) t H ≡ joined_over rel (said_by rel tables) (overriding P c.args.method) H) (sym (whole_written basics.len table basics.items basics.ok.0 size)) tells

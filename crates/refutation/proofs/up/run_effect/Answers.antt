@@ -1,9 +1,10 @@
 -- The body, and what is said of the methods that override: by the table of them all, or no more than at most.
-use Rattle.std.proofs.Common.{◌≡◌, true, rules, ap, ◌∙◌}
+use Rattle.std.proofs.Common.{◌≡◌, true, rules, sym, ap, subst, ◌∙◌}
 use Rattle.algebra.specs.Basics.{join_of}
 use Rattle.algebra.specs.HeldPaths.{has_path}
 use Rattle.core_program.specs.Views.{program_of}
 use Rattle.rules.specs.Near.{rel_of}
+use Rattle.rules.specs.Rules.{IsSubset}
 use Rattle.refutation.specs.Lines.{joined_over, overriding}
 use Rattle.refutation.specs.Tables.{said_by, table_entry}
 use Rattle.refutation.specs.declared.overs.OverSaid.{OverSaid}
@@ -18,7 +19,8 @@ returns-then-over-whole c =
     let m = c.args.method in
     let H = has_path c.args.held.now in
     let whole : c.args.over.now.whole ≡ true = search rules in
-    let said = c.requires.said.each whole H ∙ (λ i. joined_over (rel_of (c.requires.same i)) A (overriding (program_of c.args.judged.now.program.now) m) H) in
+    let inside = subst (λ s. IsSubset H (has_path (rel_of s m))) (sym c.requires.same) c.requires.inside in
+    let said = c.requires.said.each whole H inside ∙ (λ i. joined_over (rel_of (c.requires.same i)) A (overriding (program_of c.args.judged.now.program.now) m) H) in
     let table = c.as_slice.ensures.value ∙ ap (λ (o : OverSaid). o.table) c.over.view_is in
     let others = c.entry-others.ensures ∙ (λ i. table_entry (c.rel.ensures i) (table i) H) ∙ said in
     c.join.ensures ∙ (λ i. join_of (c.in_ok-body.ensures i) (others i))

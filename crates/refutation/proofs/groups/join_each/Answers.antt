@@ -1,8 +1,8 @@
 -- One place more, and all of them.
 use Rattle.std.proofs.Common.{slice_set, refl, ◌∙◌, arith}
 use Rattle.algebra.specs.declared.basic.Basic.TheVariants.{Const}
-use Rattle.refutation.proofs.OverTables.{joined_next, joined_all_of}
-use Rattle.refutation.proofs.overs.join_each.Goals as goal
+use Rattle.refutation.proofs.GroupTables.{joined_next, joined_all_of}
+use Rattle.refutation.proofs.groups.join_each.Goals as goal
 
 pub loop-at-preserved : goal.loop-at-preserved
 loop-at-preserved c =

@@ -1,6 +1,6 @@
 use Rattle.std.proofs.Common.{◌≡◌}
-use Rattle.refutation.proofs.OverTables.{joined_first}
-use Rattle.refutation.proofs.overs.join_each.Given as goal
+use Rattle.refutation.proofs.GroupTables.{joined_first}
+use Rattle.refutation.proofs.groups.join_each.Given as goal
 
 -- so many basics are joined
 abbrev pub invariant-loop-at : goal.invariant-loop-at

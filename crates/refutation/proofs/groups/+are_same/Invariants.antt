@@ -1,5 +1,5 @@
 use Rattle.std.proofs.Common.{length}
-use Rattle.refutation.proofs.overs.+are_same.Given as goal
+use Rattle.refutation.proofs.groups.+are_same.Given as goal
 
 -- the list gets shorter
 abbrev pub decreases-are_same : goal.decreases-are_same
