@@ -9,6 +9,9 @@ reverse     the same, where the last class stands first in the source
 rising      the same without the call; the last one alone is compound, and the others come to be so by it
 late        the same, where the last one calls that method; a method that calls the first one shows it
 mixed       late, where the called method has a path less, and one in the middle locks that one
+leaves      late, where half of the classes extend the last of the others, and call methods with other locks each
+own         such classes, of which each locks a field of its own that the others don't know
+waves       such classes with the same locks, of which 40 come to be compound, each a pass after the one before
 empty       classes in a line, each of which overrides an empty method
 names       the same with three methods
 pairs       classes that inherit many methods, and override none
@@ -18,6 +21,7 @@ sets_rise   methods that are called under more and more levels
 """
 from __future__ import annotations
 
+import itertools
 import os
 import re
 import subprocess
@@ -35,18 +39,25 @@ FIELDS = "abcdefg"
 Family = Callable[[int], str]
 
 
-def locked(names: str = FIELDS) -> str:
-    """A class with a method that locks these of its fields and then itself."""
+def locked(names: str = FIELDS, methods: str = "") -> str:
+    """A class with these methods and one that locks these of its fields and then itself."""
     fields = "".join(f"final L {name};" for name in FIELDS)
     sets = "".join(f"this.{name}={name};" for name in FIELDS)
     params = ",".join(f"L {name}" for name in FIELDS)
     locks = "".join(f"synchronized(this.{name}){{}}" for name in names)
-    return f"class L{{}}class X{{{fields}X({params}){{{sets}}}void g(){{{locks}synchronized(this){{}}}}}}\n"
+    return f"class L{{}}class X{{{fields}X({params}){{{sets}}}{methods}void g(){{{locks}synchronized(this){{}}}}}}\n"
 
 
 def heirs(count: int, body: Callable[[int], str]) -> list[str]:
     """So many classes in a line, with these bodies."""
     return [f"class c{k}{f' extends c{k - 1}' if k else ''}{{{body(k)}}}\n" for k in range(count)]
+
+
+def broom(count: int, bodies: list[str]) -> str:
+    """So many classes in a line, and one for each of these bodies that extends the last of them."""
+    line = heirs(count, lambda k: "void f(final X x){}")
+    ends = [f"class e{k} extends c{count - 1}{{void f(final X x){{{body}}}}}\n" for k, body in enumerate(bodies)]
+    return "".join(line + ends)
 
 
 def overriding(count: int) -> str:
@@ -62,11 +73,13 @@ def rising(count: int) -> str:
     return MAIN + "".join(heirs(count, lambda k: "int u;" * (k == 0) + f"void f(){{{last * (k == count - 1)}}}"))
 
 
+CALLER = "class Last{atomic void last(final X x,final c0 y){y.f(x);y.f(x);}}\n"
+
+
 def called_last(locks: str, bodies: dict[int, str], count: int) -> str:
     """Classes in a line with these bodies, and a method that calls the first one's twice."""
     line = heirs(count, lambda k: f"void f(final X x){{{bodies.get(k, '')}}}")
-    last = "class Last{atomic void last(final X x,final c0 y){y.f(x);y.f(x);}}\n"
-    return MAIN + locked(locks) + "".join(line) + last
+    return MAIN + locked(locks) + "".join(line) + CALLER
 
 
 def late(count: int) -> str:
@@ -75,6 +88,30 @@ def late(count: int) -> str:
 
 def mixed(count: int) -> str:
     return called_last(FIELDS[:-1], {count // 2: "synchronized(x.g){}", count - 1: "x.g();"}, count)
+
+
+def leaves(count: int) -> str:
+    some = [names for size in range(1, 8) for names in itertools.combinations(FIELDS, size)]
+    bodies = ["".join(f"synchronized(this.{name}){{}}" for name in names) for names in some]
+    methods = "".join(f"void g{k}(){{{body}}}" for k, body in enumerate(bodies))
+    calls = [f"x.g{37 * k % len(some)}();" for k in range(count - count // 2 - 1)] + ["x.g();"]
+    return MAIN + locked(methods=methods) + broom(count // 2, calls) + CALLER
+
+
+def own(count: int) -> str:
+    line = heirs(count // 2, lambda k: "void f(final X x){}")
+    held = "final L h;e{0}(L h){{this.h=h;}}void f(final X x){{synchronized(this.h){{}}}}"
+    bodies = ["void f(final X x){x.g();}"] + [held.format(k) for k in range(1, count - count // 2)]
+    ends = [f"class e{k} extends c{count // 2 - 1}{{{body}}}\n" for k, body in enumerate(bodies)]
+    return MAIN + locked() + "".join(line + ends) + CALLER
+
+
+def waves(count: int) -> str:
+    bodies = ["this.u=1;this.u=2;"] + [f"this.s{k}();" for k in range(39)]
+    methods = "int u;" + "".join(f"void s{k}(){{{body}}}" for k, body in reversed(list(enumerate(bodies))))
+    calls = [f"x.g();x.s{k}();" if k < 40 else "x.g();" for k in range(count - count // 2)]
+    last = "class Last{atomic void last(final X x){x.s39();}}\n"
+    return MAIN + locked(methods=methods) + broom(count // 2, calls) + last
 
 
 def empty(count: int) -> str:
@@ -101,6 +138,9 @@ FAMILIES: dict[str, Family] = {
     "rising": rising,
     "late": late,
     "mixed": mixed,
+    "leaves": leaves,
+    "own": own,
+    "waves": waves,
     "empty": empty,
     "names": names,
     "pairs": pairs,
