@@ -1,12 +1,12 @@
 -- Tables of groups: one method more in them, and what a table of some paths says, joined into a table of others.
-use Rattle.std.proofs.Common.{◌≡◌, ℕ, zero, suc, ◌+◌, ◌/◌, ◌<◌, ◌≤◌, Bool, true, false, ◌&&◌, ◌||◌, List, [], ◌∷◌, ◌++◌, length, take, drop, get_or, slice_set, refl, sym, ap, subst, ◌∙◌, arith}
+use Rattle.std.proofs.Common.{◌≡◌, ℕ, zero, suc, ◌+◌, ◌/◌, ◌<◌, ◌≤◌, Bool, true, false, ◌&&◌, ◌||◌, List, [], ◌∷◌, ◌++◌, length, take, drop, map, get_or, slice_set, refl, sym, ap, subst, ◌∙◌, arith}
 use Rattle.std.specs.Prelude.{Option, Some, None, IfSome, slice_get, if◌then◌else◌}
-use Rattle.std.proofs.lemmas.Bool.{cond-true, false_from_ne_true, or_right}
+use Rattle.std.proofs.lemmas.Bool.{false_from_ne_true, or_right}
+use Rattle.std.proofs.lemmas.List.{length-map, take-map, drop-map}
 use Rattle.std.proofs.lemmas.Option.{none-some, same_Some}
 use Rattle.paths.specs.Paths.{PathData, path_eq}
 use Rattle.paths.proofs.PathOrder.{eq_is}
 use Rattle.algebra.specs.declared.basic.Basic.{Basic}
-use Rattle.algebra.specs.declared.basic.Basic.TheVariants.{Const}
 use Rattle.algebra.specs.Basics.{below_of, join_of}
 use Rattle.algebra.specs.HeldPaths.{Held, has_path}
 use Rattle.algebra.specs.Tables.{first_entry, half_table, count_of_parts}
@@ -15,12 +15,10 @@ use Rattle.rules.specs.Rules.{held_in}
 use Rattle.rules.proofs.BasicLemmas.{both_below, below_chain}
 use Rattle.rules.proofs.SetLemmas.{first, second}
 use Rattle.rules.proofs.UniqueSets.{first_has}
-use Rattle.refutation.specs.Lines.{covers}
-use Rattle.refutation.specs.Tables.{table_entry, raised_at_subsets}
+use Rattle.refutation.specs.Tables.{table_entry}
 use Rattle.refutation.specs.Overs.{IsAlike, joined_each, same_paths, said_in_groups}
 use Rattle.refutation.specs.declared.groups.Group.{Group}
-use Rattle.refutation.proofs.Sets.{join_least, join_first, join_second, join_assoc, join_const, const_joined, part_covers}
-use Rattle.refutation.proofs.TableLemmas.{entry_raised}
+use Rattle.refutation.proofs.Sets.{join_least, join_first, join_second, join_assoc, join_const, const_joined}
 
 -- The same paths.
 
@@ -162,12 +160,22 @@ in_rest p ps its H none q has = ap (λ b. (b || has_path ps q) && H q) (sym othe
     other : path_eq p q ≡ false
     other = false_from_ne_true (path_eq p q) (λ e. let there : false ≡ true = sym none ∙ subst (λ x. has_path its x ≡ true) (sym (eq_is p q e)) has in absurd cc)
 
+-- each half of a table, and what it says, with a basic joined everywhere
+half_map : (b : Bool) (f : Basic → Basic) (table : List Basic) → half_table b (map f table) ≡ map f (half_table b table)
+half_map true f table = ap (λ n. drop (n / 2) (map f table)) (length-map table f) ∙ drop-map f (length table / 2) table
+half_map false f table = ap (λ n. take (n / 2) (map f table)) (length-map table f) ∙ take-map f (length table / 2) table
+
+entry_map : (rel : List PathData) (b : Basic) (table : List Basic) (H : Held) → length table ≡ count_of_parts rel → table_entry rel (map (λ x. join_of x b) table) H ≡ join_of (table_entry rel table H) b
+entry_map [] b [] H e = absurd (omega (arith, e))
+entry_map [] b (x ∷ xs) H e = refl
+entry_map (p ∷ ps) b table H e =
+    ap (λ t. table_entry ps t H) (half_map (H p) (λ x. join_of x b) table) ∙ entry_map ps b (half_table (H p) table) H (half_sizes p ps table (H p) e)
+
 -- a table of no paths has one basic, which is joined everywhere
-pub joined_everywhere : (rel its : List PathData) (into new from : List Basic) (b : Basic) → length its ≡ 0 → b ≡ first_entry from → length into ≡ count_of_parts rel → new ≡ raised_at_subsets rel rel b into
+pub joined_everywhere : (rel its : List PathData) (into new from : List Basic) (b : Basic) → length its ≡ 0 → b ≡ first_entry from → length into ≡ count_of_parts rel → new ≡ map (λ x. join_of x b) into
     → (H : Held) → table_entry rel new H ≡ join_of (table_entry rel into H) (table_entry its from (held_in rel H))
 joined_everywhere rel [] into new from b none is size put H =
-    ap (λ t. table_entry rel t H) put ∙ entry_raised rel rel b into H size
-    ∙ ap (join_of (table_entry rel into H)) (cond-true (covers rel rel H) b Const (part_covers rel rel H (λ q h r. r)) ∙ is)
+    ap (λ t. table_entry rel t H) put ∙ entry_map rel b into H size ∙ ap (join_of (table_entry rel into H)) is
 joined_everywhere rel (q ∷ its) into new from b none is size put H = absurd (omega (arith, none))
 
 -- what a table says of its first path doesn't count where that isn't one of these

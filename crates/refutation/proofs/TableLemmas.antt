@@ -97,7 +97,7 @@ raised_length (p ∷ ps) held b table e =
     let l = length-append (raised_at_subsets ps held b (half_table false table)) (if has_path held p then raised_at_subsets ps held b (half_table true table) else half_table true table) in
     omega (arith, low, high, l)
 
-pub entry_raised : (rel held : List PathData) (b : Basic) (table : List Basic) (H : Held) → length table ≡ count_of_parts rel
+entry_raised : (rel held : List PathData) (b : Basic) (table : List Basic) (H : Held) → length table ≡ count_of_parts rel
     → table_entry rel (raised_at_subsets rel held b table) H ≡ join_of (table_entry rel table H) (if covers held rel H then b else Const)
 entry_raised [] held b [] H e = absurd (omega (arith, e))
 entry_raised [] held b (x ∷ xs) H e = refl

@@ -86,7 +86,7 @@ pub(crate) fn consts(alloc: Global, rel: &[Path]) -> Result<Vec<Basic>, NoMemory
 }
 
 /// Joins a basic at each part of these held paths.
-pub(crate) fn raise(rel: &[Path], held: &[Path], found: Basic, table: &mut [Basic])
+fn raise(rel: &[Path], held: &[Path], found: Basic, table: &mut [Basic])
     ensures { table.new ≡ raised_at_subsets rel.now held.now found table.old }
 {
     let Some((path, rest)) = rel.split_first() else {

@@ -1,5 +1,5 @@
 //! What is said of several methods, in one table for all that have the same relevant paths.
-ghost use Rattle.std.specs.Prelude.{◌≡◌, ◌<◌, ℕ, true, List, length, slice_get, IfOk, IfSome, OnOk};
+ghost use Rattle.std.specs.Prelude.{◌≡◌, ◌<◌, ℕ, true, List, length, map, slice_get, IfOk, IfSome, OnOk};
 ghost use Rattle.paths.specs.Paths.{PathData};
 ghost use Rattle.algebra.specs.Basics.{join_of};
 ghost use Rattle.algebra.specs.HeldPaths.{Held};
@@ -10,11 +10,14 @@ ghost use Rattle.refutation.specs.Lines.{joined_over};
 ghost use Rattle.refutation.specs.Tables.{said_by, table_entry};
 ghost use Rattle.refutation.specs.Overs.{IsAlike, joined_each, said_in_groups, same_paths};
 
-use crate::floors::{Floors, Table, raise, table_at};
+use crate::floors::{Floors, Table, table_at};
 use algebra::{Basic, front, half, has};
 use paths::{MethodId, Path};
 use rules::RelevantSets;
 use std::alloc::{AllocError as NoMemory, Global};
+
+/// So many groups are looked at for the one that a method belongs to. What has other paths than these gets a group of its own.
+const GROUPS_LOOKED_AT: usize = 128;
 
 /// The greatest of what is said of some methods, which have the relevant paths of this one.
 #[derive(Drop)]
@@ -46,12 +49,21 @@ fn join_each(table: &mut [Basic], other: &[Basic])
     }
 }
 
-/// The place of a group with these relevant paths and so many basics, if there is one.
+/// Joins a basic with each of a table.
+fn join_all(table: &mut [Basic], found: Basic)
+    ensures { table.new ≡ map (λ b. join_of b found) table.old }
+{
+    for basic in table.iter_mut() {
+        *basic = basic.join(found);
+    }
+}
+
+/// The place of a group with these relevant paths and so many basics, if there is one among those that are looked at.
 fn alike(sets: &RelevantSets, groups: &[Group], rel: &[Path], count: usize) -> Option<usize>
     ensures within { IfSome result (λ at. at < length groups.now) }
     ensures its { IfSome result (λ at. IfSome (slice_get groups.now at) (IsAlike (rel_of sets.now) rel.now count)) }
 {
-    for at in 0..groups.len() {
+    for at in 0..groups.len().min(GROUPS_LOOKED_AT) {
         let group = &groups[at];
         let its = group.table.basics.as_slice();
         if its.len() == count && are_same(sets.rel(group.method), rel) {
@@ -127,7 +139,7 @@ fn join_in(rel: &[Path], its: &[Path], into: &mut [Basic], from: &[Basic]) -> bo
     ensures { result ≡ true → (H : Held) → table_entry rel.now into.new H ≡ join_of (table_entry rel.now into.old H) (table_entry its.now from.now (held_in rel.now H)) }
 {
     let Some((path, behind)) = its.split_first() else {
-        raise(rel, rel, front(from), into);
+        join_all(into, front(from));
         return true;
     };
     if !has(rel, path) {

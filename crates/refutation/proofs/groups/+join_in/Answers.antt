@@ -5,7 +5,7 @@ use Rattle.refutation.proofs.groups.+join_in.Goals as goal
 
 pub returns-in_default : goal.returns-in_default
 returns-in_default t c = λ e.
-    joined_everywhere c.args.rel.now c.args.its.now c.args.into.now c.raise.new.table c.args.from.now c.front.result c.in_default.ensures.cases c.front.ensures c.requires c.raise.ensures
+    joined_everywhere c.args.rel.now c.args.its.now c.args.into.now c.join_all.new.table c.args.from.now c.front.result c.in_default.ensures.cases c.front.ensures c.requires c.join_all.ensures
 
 pub returns-then-join_in : goal.returns-then-join_in
 returns-then-join_in t c = λ more.
