@@ -11,6 +11,7 @@ late        the same, where the last one calls that method; a method that calls 
 mixed       late, where the called method has a path less, and one in the middle locks that one
 leaves      late, where half of the classes extend the last of the others, and call methods with other locks each
 own         such classes, of which each locks a field of its own that the others don't know
+own_more    own, where each of these calls a method with seven relevant paths as well
 waves       such classes with the same locks, of which 40 come to be compound, each a pass after the one before
 empty       classes in a line, each of which overrides an empty method
 names       the same with three methods
@@ -98,12 +99,16 @@ def leaves(count: int) -> str:
     return MAIN + locked(methods=methods) + broom(count // 2, calls) + CALLER
 
 
-def own(count: int) -> str:
+def own(count: int, locks: str = FIELDS, more: str = "") -> str:
     line = heirs(count // 2, lambda k: "void f(final X x){}")
-    held = "final L h;e{0}(L h){{this.h=h;}}void f(final X x){{synchronized(this.h){{}}}}"
-    bodies = ["void f(final X x){x.g();}"] + [held.format(k) for k in range(1, count - count // 2)]
+    held = "final L h;e{0}(L h){{this.h=h;}}void f(final X x){{synchronized(this.h){{}}{1}}}"
+    bodies = ["void f(final X x){x.g();}"] + [held.format(k, more) for k in range(1, count - count // 2)]
     ends = [f"class e{k} extends c{count // 2 - 1}{{{body}}}\n" for k, body in enumerate(bodies)]
-    return MAIN + locked() + "".join(line + ends) + CALLER
+    return MAIN + locked(locks) + "".join(line + ends) + CALLER
+
+
+def own_more(count: int) -> str:
+    return own(count, FIELDS[:-1], "x.g();")
 
 
 def waves(count: int) -> str:
@@ -140,6 +145,7 @@ FAMILIES: dict[str, Family] = {
     "mixed": mixed,
     "leaves": leaves,
     "own": own,
+    "own_more": own_more,
     "waves": waves,
     "empty": empty,
     "names": names,
