@@ -13,6 +13,7 @@ pub mod Measures
 pub mod NameLemmas
 pub mod Untold
 pub mod Telling
+mod FollowedEntries
 pub mod HoldLemmas
 pub mod Following
 pub mod Stepping
@@ -22,6 +23,7 @@ pub mod Taken
 pub mod TakenLaws
 pub mod Meant
 pub mod Strictly
+pub mod Closing
 -- Lemmas on ranks, by which explanations lead in no circle: one more is given (Ranked), before they are given and in a round (FirstRanks).
 pub mod Ranked
 pub mod FirstRanks

@@ -1,25 +1,26 @@
 -- What is told where each method counts as `atomic`.
-use Rattle.std.proofs.Common.{◌≡◌, ℕ, zero, suc, ◌+◌, Bool, true, false, not, ◌&&◌, ◌||◌, List, [], ◌∷◌, ◌++◌, Some, Contains, append-nil, append_assoc, drop, get_or, length, map, slice_get, refl, sym, ap, subst, ◌∙◌, ◌<◌, ◌≤◌, arith, if◌then◌else◌}
+use Rattle.std.proofs.Common.{◌≡◌, ℕ, zero, suc, ◌+◌, Bool, true, false, not, ◌&&◌, List, [], ◌∷◌, ◌++◌, Some, Contains, append-nil, append_assoc, drop, get_or, length, map, slice_get, refl, sym, ap, subst, ◌∙◌, ◌<◌, ◌≤◌, arith, if◌then◌else◌}
 use Rattle.std.proofs.Math.ListN.{drop_of_length-le}
 use Rattle.std.proofs.lemmas.List.{map-append}
 use Rattle.base.proofs.Lists.{next_drop}
 use Rattle.core_program.specs.declared.program.CoreMethod.{CoreMethod}
 use Rattle.core_program.specs.Views.{method_of}
 use Rattle.std.specs.List.{AllByRecursion}
-use Rattle.std.proofs.lemmas.Bool.{and_from, and_parts, not-false, or_parts}
+use Rattle.std.proofs.lemmas.Bool.{and_from, and_parts, not-false, not-true, or_parts}
 use Rattle.paths.specs.Paths.{PathData}
 use Rattle.algebra.specs.declared.basic.Basic.TheVariants.{Atomic}
 use Rattle.algebra.specs.Basics.{below_of}
 use Rattle.core_program.specs.Core.{Program, Method}
 use Rattle.rules.specs.Effect.{Assignment}
-use Rattle.explain.specs.Programs.{compound, explained, found_of}
-use Rattle.explain.specs.Strict.{led_entries_from, entry_told, is_led_to, is_passed, keep_all, keep_from, keeps_strictly, refused_strictly, strict_bound, strict_explanations, strict_from, strict_limit, strictly_broken, strictly_broken_from, strictly_told}
+use Rattle.explain.specs.Programs.{explained, found_of}
+use Rattle.explain.specs.Strict.{entries_behind, is_settled, keep_all, keep_from, keeps_strictly, refused_strictly, settled_from, strict_bound, strict_explanations, strict_from, strict_limit, strictly_broken, strictly_broken_from, strictly_told}
 use Rattle.explain.specs.Views.{explained_data}
 use Rattle.explain.specs.declared.grounds.Ground.{Ground}
 use Rattle.explain.specs.Whys.{ExplainedData}
 use Rattle.explain.specs.declared.program.Explained.{Explained}
-use Rattle.explain.proofs.Telling.{all_contains, IsRest, rest_first, rest_next, whole}
-use Rattle.explain.proofs.Untold.{all_append}
+use Rattle.explain.proofs.FollowedEntries.{behind_told}
+use Rattle.explain.proofs.Telling.{all_contains, IsRest, IsTold, rest_first, rest_next, whole}
+use Rattle.explain.proofs.Untold.{all_append, untold}
 
 -- the limit of a method that breaks its bound, and of one that keeps it
 limit_broken : (P : Program) (A : Assignment) (m : ℕ) (method : Method) → keeps_strictly P A m method ≡ false → strict_limit P A m method ≡ strict_bound P m method
@@ -27,6 +28,20 @@ limit_broken P A m method is = ap (λ t. if t then Atomic else strict_bound P m 
 
 limit_kept : (P : Program) (A : Assignment) (m : ℕ) (method : Method) → keeps_strictly P A m method ≡ true → strict_limit P A m method ≡ Atomic
 limit_kept P A m method is = ap (λ t. if t then Atomic else strict_bound P m method) is
+
+-- a method that isn't settled keeps the bound, and isn't atomic
+pub record IsUnsettled (P : Program) (A : Assignment) (m : ℕ) (method : Method) : Type 0 where
+  pub kept : keeps_strictly P A m method ≡ true
+  pub above : below_of (found_of A m method) Atomic ≡ false
+
+pub unsettled : (P : Program) (A : Assignment) (methods : List Method) (m k j : ℕ) (method : Method) → j ≡ m + k → slice_get methods k ≡ Some method → untold (settled_from P A m methods) k ≡ true → IsUnsettled P A j method
+unsettled P A [] m k j method number there new = absurd cc
+unsettled P A (first ∷ methods) m zero j method number there new =
+    let same : first ≡ method = cc in
+    let here : m ≡ j = omega (arith, number) in
+    let parts = or_parts (not (keeps_strictly P A m first)) (below_of (found_of A m first) Atomic) (not-true (is_settled P A m first) new) in
+    subst (λ x. IsUnsettled P A j x) same (subst (λ n. IsUnsettled P A n first) here (record { kept = not-false (keeps_strictly P A m first) parts.0; above = parts.1 }))
+unsettled P A (first ∷ methods) m (suc k) j method number there new = unsettled P A methods (m + 1) k j method (omega (arith, number)) there new
 
 module _ (P : Program) (rel : ℕ → List PathData) (A : Assignment) (overs : ℕ → List ℕ) (grounds : List Ground) where
   -- an explanation is that of a method of the program, which has more than it may have without being told
@@ -59,37 +74,30 @@ module _ (P : Program) (rel : ℕ → List PathData) (A : Assignment) (overs : �
   told_from (method ∷ methods) m r =
       told_one m method (rest_first P rel A overs grounds m method methods r) (strict_from P rel A overs grounds (m + 1) methods) (told_from methods (m + 1) (rest_next P rel A overs grounds m method methods r))
 
-  -- so is that of a method that a thread begins with
-  entry_one : (led : List ExplainedData) (m : ℕ) (method : Method) → slice_get P.methods m ≡ Some method → (xs : List ExplainedData) → AllByRecursion IsStrictlyTold xs
-      → AllByRecursion IsStrictlyTold (entry_told P rel A overs grounds led m method ++ xs)
-  entry_one led m method there xs rest = by (is_passed P A led m method) refl
-    where
-      by : (b : Bool) → is_passed P A led m method ≡ b → AllByRecursion IsStrictlyTold ((if b then [] else compound P rel A overs grounds m method ∷ []) ++ xs)
-      by true is = rest
-      by false is =
-          let parts = or_parts (not (keeps_strictly P A m method)) (below_of (found_of A m method) Atomic || not (is_led_to m led)) is in
-          let limit = limit_kept P A m method (not-false (keeps_strictly P A m method) parts.0) in
-          let made : IsStrictlyTold (compound P rel A overs grounds m method) = record {
-            method = method;
-            there = there;
-            is_refused = false;
-            is = ap (λ l. explained P rel A overs grounds false l m method) (sym limit);
-            above = ap (below_of (found_of A m method)) limit ∙ (or_parts (below_of (found_of A m method) Atomic) (not (is_led_to m led)) parts.1).0;
-          } in
-          (made, rest)
+  -- so is that of a compound method to which one leads
+  led_one : (x : ExplainedData) → IsTold P rel A overs grounds (settled_from P A 0 P.methods) x → IsStrictlyTold x
+  led_one x told =
+      let loose = unsettled P A P.methods 0 x.method x.method told.method (omega arith) told.there told.new in
+      let limit = limit_kept P A x.method told.method loose.kept in
+      record {
+        method = told.method;
+        there = told.there;
+        is_refused = false;
+        is = told.is ∙ ap (λ l. explained P rel A overs grounds false l x.method told.method) (sym limit);
+        above = ap (below_of (found_of A x.method told.method)) limit ∙ loose.above;
+      }
 
-  entries_told : (led : List ExplainedData) (methods : List Method) (m : ℕ) → IsRest P rel A overs grounds m methods → AllByRecursion IsStrictlyTold (led_entries_from P rel A overs grounds led m methods)
-  entries_told led [] m r = tt
-  entries_told led (method ∷ methods) m r =
-      entry_one led m method (rest_first P rel A overs grounds m method methods r) (led_entries_from P rel A overs grounds led (m + 1) methods)
-      (entries_told led methods (m + 1) (rest_next P rel A overs grounds m method methods r))
+  leds_told : (xs : List ExplainedData) → AllByRecursion (IsTold P rel A overs grounds (settled_from P A 0 P.methods)) xs → AllByRecursion IsStrictlyTold xs
+  leds_told [] h = tt
+  leds_told (x ∷ xs) h = (led_one x h.0, leds_told xs h.1)
 
   pub all_strictly_told : (x : ExplainedData) → Contains (strict_explanations P rel A overs grounds) x → IsStrictlyTold x
   all_strictly_told x c =
-      let all = whole P rel A overs grounds in
-      let led = refused_strictly P rel A overs grounds in
+      let refused = refused_strictly P rel A overs grounds in
+      let marks = settled_from P A 0 P.methods in
       all_contains P rel A overs grounds IsStrictlyTold (strict_explanations P rel A overs grounds) x
-      (all_append IsStrictlyTold led (led_entries_from P rel A overs grounds led 0 P.methods) (told_from P.methods 0 all) (entries_told led P.methods 0 all)) c
+      (all_append IsStrictlyTold refused (entries_behind P rel A overs grounds marks refused) (told_from P.methods 0 (whole P rel A overs grounds))
+      (leds_told (entries_behind P rel A overs grounds marks refused) (behind_told P rel A overs grounds refused marks))) c
 
   -- where no bound is broken, nothing is told
   pub none_strict : (methods : List Method) (m : ℕ) → strictly_broken_from P A m methods ≡ [] → strict_from P rel A overs grounds m methods ≡ []
@@ -102,21 +110,8 @@ module _ (P : Program) (rel : ℕ → List PathData) (A : Assignment) (overs : �
       by true rest none = rest none
       by false rest none = absurd cc
 
-  passed_by : (a b : Bool) → (not a || (b || true)) ≡ true
-  passed_by true true = refl
-  passed_by true false = refl
-  passed_by false b = refl
-
-  none_led : (methods : List Method) (m : ℕ) → led_entries_from P rel A overs grounds [] m methods ≡ []
-  none_led [] m = refl
-  none_led (method ∷ methods) m =
-      ap (λ t. (if t then [] else compound P rel A overs grounds m method ∷ []) ++ led_entries_from P rel A overs grounds [] (m + 1) methods)
-      (passed_by (keeps_strictly P A m method) (below_of (found_of A m method) Atomic)) ∙ none_led methods (m + 1)
-
   pub none_explained : strictly_broken P A ≡ [] → strict_explanations P rel A overs grounds ≡ []
-  none_explained none =
-      let first = none_strict P.methods 0 none in
-      (λ i. first i ++ led_entries_from P rel A overs grounds (first i) 0 P.methods) ∙ none_led P.methods 0
+  none_explained none = ap (λ xs. xs ++ entries_behind P rel A overs grounds (settled_from P A 0 P.methods) xs) (none_strict P.methods 0 none)
 
   -- ---- the same in memory
 
@@ -148,40 +143,12 @@ module _ (P : Program) (rel : ℕ → List PathData) (A : Assignment) (overs : �
   all_told methods i all past are so_far =
       sym (append-nil all) ∙ ap (λ ms. all ++ strict_from P rel A overs grounds i (map method_of ms)) (sym (drop_of_length-le methods past)) ∙ so_far ∙ ap (strict_from P rel A overs grounds 0) are
 
-  -- nothing is told of a method that is passed
-  pub passed_told : (led : List ExplainedData) (m : ℕ) (method : Method) (b : Bool) → b ≡ is_passed P A led m method → b ≡ true → (xs : List ExplainedData)
-      → xs ≡ xs ++ entry_told P rel A overs grounds led m method
-  passed_told led m method b is passed xs = sym (append-nil xs) ∙ ap (λ t. xs ++ (if t then [] else compound P rel A overs grounds m method ∷ [])) (sym passed ∙ is)
-
-  -- of another one its explanation is
-  pub entry_added : (led : List ExplainedData) (m : ℕ) (method : Method) (b : Bool) → b ≡ is_passed P A led m method → b ≡ false → (old pushed : List Explained) (x : Explained)
-      → explained_data x ≡ compound P rel A overs grounds m method → pushed ≡ old ++ x ∷ [] → map explained_data pushed ≡ map explained_data old ++ entry_told P rel A overs grounds led m method
-  entry_added led m method b is told old pushed x x_is pushed_is =
-      ap (map explained_data) pushed_is ∙ map-append explained_data old (x ∷ []) ∙ ap (λ y. map explained_data old ++ y ∷ []) x_is
-      ∙ ap (λ t. map explained_data old ++ (if t then [] else compound P rel A overs grounds m method ∷ [])) (sym told ∙ is)
-
-  -- those so far and those of the rest, after one method more
-  pub one_more_entry : (led : List ExplainedData) (methods : List CoreMethod) (i : ℕ) (method : CoreMethod) (all all1 every : List ExplainedData) → i < length methods → method ≡ get_or methods i method
-      → all1 ≡ all ++ entry_told P rel A overs grounds led i (method_of method) → all ++ led_entries_from P rel A overs grounds led i (map method_of (drop i methods)) ≡ every
-      → all1 ++ led_entries_from P rel A overs grounds led (i + 1) (map method_of (drop (i + 1) methods)) ≡ every
-  one_more_entry led methods i method all all1 every below is adds before =
-      let rest = led_entries_from P rel A overs grounds led (i + 1) (map method_of (drop (i + 1) methods)) in
-      ap (λ l. l ++ rest) adds ∙ append_assoc all (entry_told P rel A overs grounds led i (method_of method)) rest
-      ∙ ap (λ l. all ++ led_entries_from P rel A overs grounds led i (map method_of l)) (sym (next_drop methods i method below is)) ∙ before
-
-  -- at the end they are all
-  pub all_entries : (led : List ExplainedData) (methods : List CoreMethod) (i : ℕ) (all : List ExplainedData) → length methods ≤ i → map method_of methods ≡ P.methods
-      → all ++ led_entries_from P rel A overs grounds led i (map method_of (drop i methods)) ≡ led_entries_from P rel A overs grounds led 0 (map method_of methods) → all ≡ led_entries_from P rel A overs grounds led 0 P.methods
-  all_entries led methods i all past are so_far =
-      sym (append-nil all) ∙ ap (λ ms. all ++ led_entries_from P rel A overs grounds led i (map method_of ms)) (sym (drop_of_length-le methods past)) ∙ so_far
-      ∙ ap (led_entries_from P rel A overs grounds led 0) are
-
-  -- the entries behind the others
-  pub entries_behind : (first second all : List Explained) → map explained_data first ≡ refused_strictly P rel A overs grounds
-      → map explained_data second ≡ led_entries_from P rel A overs grounds (map explained_data first) 0 P.methods → all ≡ first ++ second → map explained_data all ≡ strict_explanations P rel A overs grounds
-  entries_behind first second all one other whole_is =
+  -- those behind the refused ones
+  pub behind_refused : (first second all : List Explained) → map explained_data first ≡ refused_strictly P rel A overs grounds
+      → map explained_data second ≡ entries_behind P rel A overs grounds (settled_from P A 0 P.methods) (map explained_data first) → all ≡ first ++ second → map explained_data all ≡ strict_explanations P rel A overs grounds
+  behind_refused first second all one other whole_is =
       ap (map explained_data) whole_is ∙ map-append explained_data first second ∙ ap (λ ys. map explained_data first ++ ys) other
-      ∙ (λ i. one i ++ led_entries_from P rel A overs grounds (one i) 0 P.methods)
+      ∙ (λ i. one i ++ entries_behind P rel A overs grounds (settled_from P A 0 P.methods) (one i))
 
 module _ (P : Program) (A : Assignment) where
   -- a method that breaks its bound, one that keeps it, and the end

@@ -17,14 +17,14 @@ use Rattle.explain.proofs.Untold.{untold, left, left_most, left_less, left_marke
 
 module _ (P : Program) (rel : ℕ → List PathData) (A : Assignment) (overs : ℕ → List ℕ) (grounds : List Ground) where
   -- a method that an explanation leads to, where these are told: it is there, isn't told, and keeps its bound
-  record IsTold (told : List Bool) (x : ExplainedData) : Type 0 where
-    method : Method
-    there : slice_get P.methods x.method ≡ Some method
-    new : untold told x.method ≡ true
-    kept : keeps A x.method method ≡ true
-    is : x ≡ compound P rel A overs grounds x.method method
+  pub record IsTold (told : List Bool) (x : ExplainedData) : Type 0 where
+    pub method : Method
+    pub there : slice_get P.methods x.method ≡ Some method
+    pub new : untold told x.method ≡ true
+    pub kept : keeps A x.method method ≡ true
+    pub is : x ≡ compound P rel A overs grounds x.method method
 
-  abbrev AreTold : List Bool → List ExplainedData → Type 0
+  abbrev pub AreTold : List Bool → List ExplainedData → Type 0
   AreTold told xs = AllByRecursion (IsTold told) xs
 
   abbrev Step : (List Bool → List ExplainedData → Type 0) → Type 0
@@ -57,7 +57,7 @@ module _ (P : Program) (rel : ℕ → List PathData) (A : Assignment) (overs : �
   first_differs told m [] h = tt
   first_differs told m (x ∷ xs) h = (apart told m x.method h.0.new, first_differs told m xs h.1)
 
-  led_told : (fuel : ℕ) (told : List Bool) (next : Option ℕ) → AreTold told (led P rel A overs grounds fuel told next)
+  pub led_told : (fuel : ℕ) (told : List Bool) (next : Option ℕ) → AreTold told (led P rel A overs grounds fuel told next)
   led_told = led_all AreTold (λ told. tt) (λ told m method rest there new kept h. (record { method = method; there = there; new = new; kept = kept; is = refl }, told_before told m rest h))
 
   record DifferTold (told : List Bool) (xs : List ExplainedData) : Type 0 where
@@ -248,16 +248,16 @@ module _ (P : Program) (rel : ℕ → List PathData) (A : Assignment) (overs : �
   contains_first : {X : Type 0} (x y : X) (xs : List X) → x ≡ y → Contains (x ∷ xs) y
   contains_first x y xs is = (zero, omega arith, is)
 
-  contains_none : {X : Type 0} {Y : Type 0} (x : X) → Contains [] x → Y
+  pub contains_none : {X : Type 0} {Y : Type 0} (x : X) → Contains [] x → Y
   contains_none x c = let low = c.1 in absurd (omega (arith, low))
 
-  abbrev IsComplete : List Bool → List ExplainedData → Type 0
+  abbrev pub IsComplete : List Bool → List ExplainedData → Type 0
   IsComplete told xs = (x : ExplainedData) → Contains xs x → (k : ℕ) (method : Method) → led_to x.why ≡ Some k → slice_get P.methods k ≡ Some method → untold told k ≡ true → keeps A k method ≡ true
       → Contains xs (compound P rel A overs grounds k method)
 
-  record LedComplete (told : List Bool) (next : Option ℕ) (xs : List ExplainedData) : Type 0 where
-    first : (k : ℕ) (method : Method) → next ≡ Some k → slice_get P.methods k ≡ Some method → untold told k ≡ true → keeps A k method ≡ true → Contains xs (compound P rel A overs grounds k method)
-    later : IsComplete told xs
+  pub record LedComplete (told : List Bool) (next : Option ℕ) (xs : List ExplainedData) : Type 0 where
+    pub first : (k : ℕ) (method : Method) → next ≡ Some k → slice_get P.methods k ≡ Some method → untold told k ≡ true → keeps A k method ≡ true → Contains xs (compound P rel A overs grounds k method)
+    pub later : IsComplete told xs
 
   same_compound : (m k : ℕ) (a b : Method) → m ≡ k → slice_get P.methods m ≡ Some a → slice_get P.methods k ≡ Some b → compound P rel A overs grounds m a ≡ compound P rel A overs grounds k b
   same_compound m k a b is there too =
@@ -300,7 +300,7 @@ module _ (P : Program) (rel : ℕ → List PathData) (A : Assignment) (overs : �
           let less = left_less told m (ap not t_is) in
           step_complete told m method (rest method) is (again method (omega (arith, less, few)))
 
-  led_complete : (fuel : ℕ) (told : List Bool) (next : Option ℕ) → left told ≤ fuel → LedComplete told next (led P rel A overs grounds fuel told next)
+  pub led_complete : (fuel : ℕ) (told : List Bool) (next : Option ℕ) → left told ≤ fuel → LedComplete told next (led P rel A overs grounds fuel told next)
   led_complete zero told next few = record {
     first = λ k method e there new kept. let less = left_less told k new in absurd (omega (arith, less, few));
     later = λ x c k other leads too new kept. contains_none x c;
@@ -314,7 +314,7 @@ module _ (P : Program) (rel : ℕ → List PathData) (A : Assignment) (overs : �
       (λ method. led_complete fuel (slice_set told m true) (led_to (compound P rel A overs grounds m method).why)) (slice_get P.methods m) refl
 
   -- a method that isn't told is among those that are then, or isn't told then either
-  among_told : (old : List Bool) (xs : List ExplainedData) → AreTold old xs → (told : List Bool) (k : ℕ) (method : Method) → slice_get P.methods k ≡ Some method → untold told k ≡ true
+  pub among_told : (old : List Bool) (xs : List ExplainedData) → AreTold old xs → (told : List Bool) (k : ℕ) (method : Method) → slice_get P.methods k ≡ Some method → untold told k ≡ true
       → Contains xs (compound P rel A overs grounds k method) ⊎ (untold (marked told (explained_methods xs)) k ≡ true)
   among_told old [] h told k method there new = inr new
   among_told old (x ∷ xs) h told k method there new = elim (marked_or told x.method k new) as (λ _. Contains (x ∷ xs) (compound P rel A overs grounds k method) ⊎ (untold (marked told (explained_methods (x ∷ xs))) k ≡ true)) [

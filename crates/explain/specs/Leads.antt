@@ -14,7 +14,7 @@ use Rattle.explain.specs.declared.grounds.Ground.{Ground}
 use Rattle.explain.specs.Explaining.{is_error_of_part, why_of}
 use Rattle.explain.specs.Grounds.{level_at, rank_at, why_by}
 use Rattle.explain.specs.Meanings.{IsReasonOf}
-use Rattle.explain.specs.Programs.{called_by, found_of, keeps}
+use Rattle.explain.specs.Programs.{called_by, found_of, keeps, led_to}
 use Rattle.explain.specs.Strict.{strict_limit}
 use Rattle.explain.specs.Whys.{WhyData, ExplainedData, Wrong, Looped, Compound, Two, Overridden, Nothing}
 
@@ -39,6 +39,12 @@ module _ (P : Program) (rel : ℕ → List PathData) (xs : List ExplainedData) w
   pub data IsReasonChain : ExplainedData → ExplainedData → Type 0 where
     link : {x y : ExplainedData} → LeadsToTold x y → IsReasonChain x y
     chain : {x y z : ExplainedData} → LeadsToTold x y → IsReasonChain y z → IsReasonChain x z
+
+-- each method by which one of these explanations is that of a compound method, or that overrides it and is more, is told by one of them too,
+-- unless it is atomic
+abbrev pub LeadsAreTold : Program → Assignment → List ExplainedData → Type 0
+LeadsAreTold P A xs = (x : ExplainedData) → Contains xs x → (m : ℕ) (method : Method) → led_to x.why ≡ Some m → slice_get P.methods m ≡ Some method → below_of (found_of A m method) Atomic ≡ false
+    → (y : ExplainedData) × Contains xs y × (y.method ≡ m)
 
 -- the greatest basic that a method may have without being told; of one that keeps the bound that it declares this is `atomic`, since it is told
 -- where a refused one is compound by it

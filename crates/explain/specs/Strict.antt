@@ -1,5 +1,5 @@
 -- A program whose methods all count as `atomic`, but those that threads begin with.
-use Rattle.std.specs.Prelude.{◌≡◌, ◌==◌, ℕ, ◌+◌, Bool, true, false, not, ◌||◌, ◌&&◌, List, [], ◌∷◌, ◌++◌, Option, Some, None, slice_get, if◌then◌else◌}
+use Rattle.std.specs.Prelude.{◌≡◌, ◌==◌, ℕ, ◌+◌, Bool, true, false, not, ◌||◌, ◌&&◌, List, [], ◌∷◌, ◌++◌, length, Option, Some, None, slice_get, if◌then◌else◌}
 use Rattle.std.specs.List.{list_any}
 use Rattle.paths.specs.Paths.{PathData}
 use Rattle.algebra.specs.declared.basic.Basic.{Basic}
@@ -10,7 +10,7 @@ use Rattle.rules.specs.Effect.{Assignment}
 use Rattle.rules.specs.Near.{AreFew, AreRelevant, MethodPaths, rel_of}
 use Rattle.rules.specs.Rules.{IsAntitone, IsClosed, declared_bound}
 use Rattle.explain.specs.declared.grounds.Ground.{Ground}
-use Rattle.explain.specs.Programs.{compound, explained, found_of, led_to}
+use Rattle.explain.specs.Programs.{explained, explained_methods, found_of, led, led_to, marked}
 use Rattle.explain.specs.Whys.{ExplainedData}
 
 -- whether this method runs for `run`
@@ -53,13 +53,14 @@ strictly_broken_from P A m (method ∷ methods) = if keeps_strictly P A m method
 abbrev pub strictly_broken : Program → Assignment → List ℕ
 strictly_broken P A = strictly_broken_from P A 0 P.methods
 
--- whether one of these explanations leads to this method
-abbrev pub is_led_to : ℕ → List ExplainedData → Bool
-is_led_to m xs = list_any (λ x. is_run m (led_to x.why)) xs
+-- whether a method needs no lines as a compound one that keeps the bound: it breaks the bound, and is told for that, or it is atomic
+abbrev pub is_settled : Program → Assignment → ℕ → Method → Bool
+is_settled P A m method = not (keeps_strictly P A m method) || below_of (found_of A m method) Atomic
 
--- whether nothing is told of a method behind these explanations: it breaks the bound itself, or it is atomic, or none of these leads to it
-abbrev pub is_passed : Program → Assignment → List ExplainedData → ℕ → Method → Bool
-is_passed P A xs m method = not (keeps_strictly P A m method) || (below_of (found_of A m method) Atomic || not (is_led_to m xs))
+-- the same of each of these methods, where they are numbered from here on
+abbrev pub settled_from : Program → Assignment → ℕ → List Method → List Bool
+settled_from P A m [] = []
+settled_from P A m (method ∷ methods) = is_settled P A m method ∷ settled_from P A (m + 1) methods
 
 module _ (P : Program) (rel : ℕ → List PathData) (A : Assignment) (overs : ℕ → List ℕ) (grounds : List Ground) where
   -- the explanation of a method that breaks the bound; none of one that keeps it
@@ -75,18 +76,18 @@ module _ (P : Program) (rel : ℕ → List PathData) (A : Assignment) (overs : �
   abbrev pub refused_strictly : List ExplainedData
   refused_strictly = strict_from 0 P.methods
 
-  -- the explanation of a compound method that keeps the bound, since a thread begins with it, where one of these leads to it
-  abbrev pub entry_told : List ExplainedData → ℕ → Method → List ExplainedData
-  entry_told xs m method = if is_passed P A xs m method then [] else compound P rel A overs grounds m method ∷ []
+  -- behind explanations, where these methods are settled or told: the compound methods that keep the bound to which the first one leads,
+  -- each the next one's reason, then those to which the second one leads, and so on; each is told once
+  abbrev pub entries_behind : (told : List Bool) → List ExplainedData → List ExplainedData
+  entries_behind told [] = []
+  entries_behind told (x ∷ xs) =
+      let more = led P rel A overs grounds (length P.methods) told (led_to x.why) in
+      more ++ entries_behind (marked told (explained_methods more)) xs
 
-  -- those of methods that are numbered from here on
-  abbrev pub led_entries_from : List ExplainedData → ℕ → List Method → List ExplainedData
-  led_entries_from xs m [] = []
-  led_entries_from xs m (method ∷ methods) = entry_told xs m method ++ led_entries_from xs (m + 1) methods
-
-  -- the explanations of the methods that break the bound, and behind them those of the compound ones that threads begin with and to which these lead
+  -- the explanations of the methods that break the bound, and behind them those of the compound ones that threads begin with and to which one of
+  -- these leads, or one that is led to
   abbrev pub strict_explanations : List ExplainedData
-  strict_explanations = refused_strictly ++ led_entries_from refused_strictly 0 P.methods
+  strict_explanations = refused_strictly ++ entries_behind (settled_from P A 0 P.methods) refused_strictly
 
 -- the program is accepted where each method counts as `atomic` but those that threads begin with: it is well-formed, and some falling and
 -- closed assignment keeps these bounds

@@ -19,9 +19,11 @@ ghost use Rattle.explain.specs.declared.grounds.Ground.{Ground};
 ghost use Rattle.explain.specs.declared.names.Alias.{Alias};
 ghost use Rattle.explain.specs.Deeds.{help_of};
 ghost use Rattle.explain.specs.Explaining.{why_of};
+ghost use Rattle.explain.specs.Leads.{LeadsAreTold};
 ghost use Rattle.explain.specs.Meanings.{are_within, IsReasonOf};
 ghost use Rattle.explain.specs.Names.{second_name};
 ghost use Rattle.explain.specs.Programs.{compound, explanations, keeps, led_to, explained_methods, refused_from, IsExplained};
+ghost use Rattle.explain.specs.Strict.{strict_explanations};
 ghost use Rattle.explain.specs.Takings.{taken_lock, IsLockTaken};
 ghost use Rattle.explain.specs.Whys.{ExplainedData};
 
@@ -36,6 +38,13 @@ pub fn explanation_laws()
     ensures led { (P : Program) (rel : ℕ → List PathData) (A : Assignment) (overs : ℕ → List ℕ) (grounds : List Ground) (x : ExplainedData) → Contains (explanations P rel A overs grounds) x →
         (m : ℕ) (method : Method) → led_to x.why ≡ Some m → slice_get P.methods m ≡ Some method → keeps A m method ≡ true →
         Contains (explanations P rel A overs grounds) (compound P rel A overs grounds m method) }
+{}
+
+/// The methods that are told are closed: each to which one of them leads is told too, unless it is atomic. So it is by the bounds that methods
+/// declare, and where each counts as `atomic` but those that threads begin with.
+pub fn leading_laws()
+    ensures declared { (P : Program) (rel : ℕ → List PathData) (A : Assignment) (overs : ℕ → List ℕ) (grounds : List Ground) → LeadsAreTold P A (explanations P rel A overs grounds) }
+    ensures strict { (P : Program) (rel : ℕ → List PathData) (A : Assignment) (overs : ℕ → List ℕ) (grounds : List Ground) → LeadsAreTold P A (strict_explanations P rel A overs grounds) }
 {}
 
 /// With the lock that is told held, the step can be moved. A lock is told wherever one helps, and another name that is told is held.

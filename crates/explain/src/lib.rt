@@ -34,7 +34,7 @@ pub use explaining::{Why, basics};
 pub use found::{CorePart, Visited};
 pub use grounds::Ground;
 pub use laws_of_explanations::{
-    around_laws, explanation_laws, hold_laws, reason_laws, taking_laws,
+    around_laws, explanation_laws, hold_laws, leading_laws, reason_laws, taking_laws,
 };
 pub use names::{Alias, Lack, aliases, ascending};
 pub use program::{Explained, explanations};

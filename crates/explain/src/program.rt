@@ -145,7 +145,7 @@ fn next_told<'p, A: Assigned>(
 }
 
 /// Adds the compound methods to which an explanation leads, each the next one's reason, up to one that is told already or refused.
-fn follow<'p, A: Assigned>(
+pub(crate) fn follow<'p, A: Assigned>(
     basis: &Basis<'_, 'p, A>,
     most: usize,
     first: Option<MethodId>,

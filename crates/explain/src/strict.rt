@@ -5,11 +5,11 @@ ghost use Rattle.std.specs.List.{list_any};
 ghost use Rattle.core_program.specs.Views.{core_class_of, method_of, program_of};
 ghost use Rattle.rules.specs.Near.{rel_of};
 ghost use Rattle.rules.specs.Search.{row_at};
-ghost use Rattle.explain.specs.Strict.{led_entries_from, entry_told, is_led_to, is_passed, is_thread_entry, is_run, keep_all, keeps_strictly, refused_strictly, strict_bound, strict_explanations, strict_limit, strictly_told};
+ghost use Rattle.explain.specs.Strict.{entries_behind, is_settled, is_thread_entry, is_run, keep_all, keeps_strictly, refused_strictly, settled_from, strict_bound, strict_explanations, strict_limit, strictly_told};
 ghost use Rattle.explain.specs.Views.{explained_data};
 
 use crate::grounds::Ground;
-use crate::program::{Basis, Explained, explain_method, led_to};
+use crate::program::{Basis, Explained, explain_method, follow, led_to};
 use crate::walk::Walk;
 use algebra::Basic;
 use core_program::{CoreClass, CoreMethod, CoreProgram};
@@ -130,75 +130,53 @@ fn refused_strictly<'b, 'p, A: Assigned>(
     Ok(all)
 }
 
-/// Whether one of these explanations leads to this method.
-fn is_led_to(id: MethodId, told: &[Explained<'_>]) -> bool
-    ensures { result ≡ is_led_to id (map explained_data told.now) }
-{
-    for x in told {
-        if is_run(id, led_to(&x.why)) {
-            return true;
-        }
-    }
-    false
-}
-
-/// Whether nothing is told of a method behind these explanations.
-fn is_passed<A: Assigned>(
-    walk: &Walk<'_, A>,
-    told: &[Explained<'_>],
-    id: MethodId,
-    method: &CoreMethod,
-) -> bool
-    ensures { result ≡ is_passed (program_of walk.now.program.now) (A.Assigned.assigned walk.now.assigned.now) (map explained_data told.now) id (method_of method.now) }
+/// Whether a method needs no lines as a compound one that keeps its bound: it has more, and is told for that, or it is atomic.
+fn is_settled<A: Assigned>(walk: &Walk<'_, A>, id: MethodId, method: &CoreMethod) -> bool
+    ensures { result ≡ is_settled (program_of walk.now.program.now) (A.Assigned.assigned walk.now.assigned.now) id (method_of method.now) }
 {
     let found = walk.assigned.at(id, method.requires_.as_slice());
-    !keeps_strictly(walk, id, method) || (found.below(Basic::Atomic) || !is_led_to(id, told))
+    !keeps_strictly(walk, id, method) || found.below(Basic::Atomic)
 }
 
-/// Adds the explanation of a compound method that a thread begins with, where one of these leads to it.
-fn add_entry<'p, A: Assigned>(
-    basis: &Basis<'_, 'p, A>,
-    told: &[Explained<'_>],
-    id: MethodId,
-    method: &'p CoreMethod,
-    all: &mut Vec<Explained<'p>>,
-) -> Result<(), NoMemory>
-    ensures { OnOk result (map explained_data all.new.items ≡ map explained_data all.old.items
-        ++ entry_told (program_of basis.now.walk.now.program.now) (rel_of basis.now.walk.now.sets.now) (A.Assigned.assigned basis.now.walk.now.assigned.now) (row_at basis.now.over.now) basis.now.grounds.now (map explained_data told.now) id (method_of method.now)) }
+/// The same of each method.
+fn settled<A: Assigned>(walk: &Walk<'_, A>) -> Result<Vec<bool>, NoMemory>
+    requires { length (program_of walk.now.program.now).methods ≤ 2 ^ 32 }
+    ensures { IfOk result (λ marks. marks.items ≡ settled_from (program_of walk.now.program.now) (A.Assigned.assigned walk.now.assigned.now) 0 (program_of walk.now.program.now).methods) }
 {
-    if is_passed(basis.walk, told, id, method) {
-        return Ok(());
+    let mut marks = Vec::new(walk.alloc);
+    for (m, method) in walk.program.methods().iter().enumerate() {
+        marks.push(is_settled(walk, MethodId(m as u32), method))?;
     }
-    let x = explain_method(basis, id, method, false, Basic::Atomic)?;
-    all.push(x)?;
-    Ok(())
+    Ok(marks)
 }
 
-/// The explanations of the compound methods that threads begin with and to which these lead, in source order.
-fn entries<'b, 'p, A: Assigned>(
+/// The explanations of the compound methods that threads begin with and to which one of these leads, or one that is led to.
+fn entries_behind<'b, 'p, A: Assigned>(
     walk: &'b Walk<'p, A>,
     over: &'b OverridingMethods,
     grounds: &'b [Ground],
-    told: &[Explained<'_>],
+    refused: &[Explained<'_>],
 ) -> Result<Vec<Explained<'p>>, NoMemory>
     requires { length (program_of walk.now.program.now).methods ≤ 2 ^ 32 }
-    ensures { IfOk result (λ all. map explained_data all.items ≡
-        led_entries_from (program_of walk.now.program.now) (rel_of walk.now.sets.now) (A.Assigned.assigned walk.now.assigned.now) (row_at over.now) grounds.now (map explained_data told.now) 0 (program_of walk.now.program.now).methods) }
+    ensures { IfOk result (λ all. let P = program_of walk.now.program.now in let T = A.Assigned.assigned walk.now.assigned.now in
+        map explained_data all.items ≡ entries_behind P (rel_of walk.now.sets.now) T (row_at over.now) grounds.now (settled_from P T 0 P.methods) (map explained_data refused.now)) }
 {
     let mut all = Vec::new(walk.alloc);
-    for (m, method) in walk.program.methods().iter().enumerate() {
-        let basis = Basis {
-            walk,
-            over,
-            grounds,
-        };
-        add_entry(&basis, told, MethodId(m as u32), method, &mut all)?;
+    let mut told = settled(walk)?;
+    let basis = Basis {
+        walk,
+        over,
+        grounds,
+    };
+    let most = walk.program.methods().len();
+    for x in refused {
+        follow(&basis, most, led_to(&x.why), &mut told, &mut all)?;
     }
     Ok(all)
 }
 
-/// The explanations of the methods that have more than they may where each counts as `atomic` but those that threads begin with, and behind
-/// them those of the compound ones that threads begin with and to which these lead; both in source order.
+/// The explanations of the methods that have more than they may where each counts as `atomic` but those that threads begin with, in source
+/// order; behind them those of the compound ones that threads begin with and to which one of these leads, or one that is led to.
 pub fn strict_explanations<'b, 'p, A: Assigned>(
     walk: &'b Walk<'p, A>,
     over: &'b OverridingMethods,
@@ -208,7 +186,7 @@ pub fn strict_explanations<'b, 'p, A: Assigned>(
     ensures { IfOk result (λ all. map explained_data all.items ≡ strict_explanations (program_of walk.now.program.now) (rel_of walk.now.sets.now) (A.Assigned.assigned walk.now.assigned.now) (row_at over.now) grounds.now) }
 {
     let mut all = refused_strictly(walk, over, grounds)?;
-    let mut behind = entries(walk, over, grounds, all.as_slice())?;
+    let mut behind = entries_behind(walk, over, grounds, all.as_slice())?;
     all.append(&mut behind)?;
     Ok(all)
 }

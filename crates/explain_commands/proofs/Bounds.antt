@@ -1,5 +1,5 @@
 -- How it ends, and what is told, by which bounds are asked for.
-use Rattle.std.proofs.Common.{◌≡◌, ℕ, ◌+◌, Bool, true, false, List, [], ◌∷◌, ◌++◌, Contains, Option, Some, None, if◌then◌else◌, filter, length, map, slice_get, refl, sym, ap, ◌∙◌}
+use Rattle.std.proofs.Common.{◌≡◌, ℕ, ◌+◌, Bool, true, false, List, [], ◌∷◌, ◌++◌, Contains, Option, Some, None, if◌then◌else◌, filter, length, map, slice_get, refl, sym, ap, subst, ◌∙◌, append-nil}
 use Rattle.std.proofs.lemmas.Option.{slice_get_within}
 use Rattle.algebra.specs.declared.basic.Basic.{Basic}
 use Rattle.algebra.specs.Basics.{below_of}
@@ -10,13 +10,14 @@ use Rattle.explain.specs.declared.names.Alias.{Alias}
 use Rattle.explain.specs.Causes.{cause_of}
 use Rattle.effects.specs.Parts.{StmtP}
 use Rattle.explain.specs.Grounds.{level_at}
-use Rattle.explain.specs.Leads.{AreGrounded, IsReasonChain, IsReasonBy}
-use Rattle.explain.specs.Programs.{compound, explained}
+use Rattle.explain.specs.Leads.{AreGrounded, IsReasonChain, IsReasonBy, LeadsAreTold}
+use Rattle.explain.specs.Programs.{explained, explained_methods, led, led_to, marked}
 use Rattle.explain.specs.Ranking.{AreAllRanked}
-use Rattle.explain.specs.Strict.{led_entries_from, is_passed, keep_all, keeps_strictly, refused_strictly, strict_bound, strict_from, strictly_broken, strictly_broken_from}
+use Rattle.explain.specs.Strict.{entries_behind, settled_from, keep_all, keeps_strictly, refused_strictly, strict_bound, strict_from, strictly_broken, strictly_broken_from}
 use Rattle.explain.specs.Visits.{Visit, part_visits}
 use Rattle.explain.specs.declared.grounds.Ground.{Ground}
 use Rattle.explain.specs.Whys.{ExplainedData, Wrong}
+use Rattle.explain.proofs.Closing.{leads_are_told, strict_leads_are_told}
 use Rattle.explain.proofs.Strictly.{none_broken_strictly, none_explained, some_broken_strictly}
 use Rattle.explain.proofs.Telling.{IsRest, rest_first, rest_next, whole}
 use Rattle.paths.specs.Paths.{PathData}
@@ -38,7 +39,7 @@ use Rattle.explain_commands.specs.Explained.{AreAmongMethods}
 use Rattle.explain_commands.specs.Orders.{IsProgramVerdict, bounds_for, broken_for, ending_in, explanations_for, strict_ending}
 use Rattle.explain_commands.specs.Placed.{IsNamedBy}
 use Rattle.explain_commands.proofs.Placing.{named_there}
-use Rattle.explain_commands.proofs.Breaking.{all_there, exactly_broken, nothing_explained}
+use Rattle.explain_commands.proofs.Breaking.{all_there, all_within, AreLed, exactly_broken, led_fine, none_refused, nothing_explained}
 
 -- ---- how it ends
 
@@ -84,6 +85,10 @@ verdict_for Strict P sets A declared typed least verdict = by (keep_all P A) ref
 
 -- ---- what is told where each method counts as `atomic`
 
+both_led : (n : ℕ) (xs ys : List ExplainedData) → AreLed n xs → AreLed n ys → AreLed n (xs ++ ys)
+both_led n [] ys one other = other
+both_led n (x ∷ xs) ys one other = (one.0, one.1, both_led n xs ys one.2 other)
+
 module _ (P : Program) (rel : ℕ → List PathData) (A : Assignment) (overs : ℕ → List ℕ) (grounds : List Ground) where
   strictly_refused : (methods : List Method) (m : ℕ) → refused_in (strict_from P rel A overs grounds m methods) ≡ strictly_broken_from P A m methods
   strictly_refused [] m = refl
@@ -105,14 +110,12 @@ module _ (P : Program) (rel : ℕ → List PathData) (A : Assignment) (overs : �
       by false rest = (slice_get_within P.methods m method (rest_first P rel A overs grounds m method methods r), rest)
 
   -- none of those behind them is refused, and all are there
-  none_refused : (led : List ExplainedData) (methods : List Method) (m : ℕ) → refused_in (led_entries_from P rel A overs grounds led m methods) ≡ []
-  none_refused led [] m = refl
-  none_refused led (method ∷ methods) m = by (is_passed P A led m method) (none_refused led methods (m + 1))
-    where
-      by : (b : Bool) → refused_in (led_entries_from P rel A overs grounds led (m + 1) methods) ≡ []
-          → refused_in ((if b then [] else compound P rel A overs grounds m method ∷ []) ++ led_entries_from P rel A overs grounds led (m + 1) methods) ≡ []
-      by true rest = rest
-      by false rest = rest
+  behind_fine : (xs : List ExplainedData) (told : List Bool) → AreLed (length P.methods) (entries_behind P rel A overs grounds told xs)
+  behind_fine [] told = tt
+  behind_fine (x ∷ xs) told =
+      let more = led P rel A overs grounds (length P.methods) told (led_to x.why) in
+      both_led (length P.methods) more (entries_behind P rel A overs grounds (marked told (explained_methods more)) xs) (led_fine P rel A overs grounds (length P.methods) told (led_to x.why))
+      (behind_fine xs (marked told (explained_methods more)))
 
   refused_both : (xs ys : List ExplainedData) → refused_in ys ≡ [] → refused_in (xs ++ ys) ≡ refused_in xs
   refused_both [] ys none = none
@@ -123,18 +126,16 @@ module _ (P : Program) (rel : ℕ → List PathData) (A : Assignment) (overs : �
       by true rest = ap (λ ms. x.method ∷ ms) rest
       by false rest = rest
 
-  entries_there : (led : List ExplainedData) (methods : List Method) (m : ℕ) → IsRest P rel A overs grounds m methods → AreAmongMethods (length P.methods) (led_entries_from P rel A overs grounds led m methods)
-  entries_there led [] m r = tt
-  entries_there led (method ∷ methods) m r = by (is_passed P A led m method) (entries_there led methods (m + 1) (rest_next P rel A overs grounds m method methods r))
-    where
-      by : (b : Bool) → AreAmongMethods (length P.methods) (led_entries_from P rel A overs grounds led (m + 1) methods)
-          → AreAmongMethods (length P.methods) ((if b then [] else compound P rel A overs grounds m method ∷ []) ++ led_entries_from P rel A overs grounds led (m + 1) methods)
-      by true rest = rest
-      by false rest = (slice_get_within P.methods m method (rest_first P rel A overs grounds m method methods r), rest)
-
   among_both : (n : ℕ) (xs ys : List ExplainedData) → AreAmongMethods n xs → AreAmongMethods n ys → AreAmongMethods n (xs ++ ys)
   among_both n [] ys one other = other
   among_both n (x ∷ xs) ys one other = (one.0, among_both n xs ys one.1 other)
+
+  -- the entries behind the refused ones
+  abbrev entries : List ExplainedData
+  entries = entries_behind P rel A overs grounds (settled_from P A 0 P.methods) (refused_strictly P rel A overs grounds)
+
+  entries_fine : AreLed (length P.methods) entries
+  entries_fine = behind_fine (refused_strictly P rel A overs grounds) (settled_from P A 0 P.methods)
 
   -- ---- by what is asked for
 
@@ -142,17 +143,21 @@ module _ (P : Program) (rel : ℕ → List PathData) (A : Assignment) (overs : �
   pub exactly_for : (order : Order) → refused_in (explanations_for order P rel A overs grounds) ≡ broken_for order P A
   exactly_for Why = exactly_broken P rel A overs grounds
   exactly_for All = exactly_broken P rel A overs grounds
-  exactly_for Strict =
-      let led = refused_strictly P rel A overs grounds in
-      refused_both led (led_entries_from P rel A overs grounds led 0 P.methods) (none_refused led P.methods 0) ∙ strictly_refused P.methods 0
+  exactly_for Strict = refused_both (refused_strictly P rel A overs grounds) entries (ap refused_in (sym (append-nil entries)) ∙ none_refused (length P.methods) entries [] entries_fine) ∙ strictly_refused P.methods 0
 
   -- and all their methods are there
   pub there_for : (order : Order) → AreAmongMethods (length P.methods) (explanations_for order P rel A overs grounds)
   there_for Why = all_there P rel A overs grounds
   there_for All = all_there P rel A overs grounds
   there_for Strict =
-      let led = refused_strictly P rel A overs grounds in
-      among_both (length P.methods) led (led_entries_from P rel A overs grounds led 0 P.methods) (strictly_there P.methods 0 (whole P rel A overs grounds)) (entries_there led P.methods 0 (whole P rel A overs grounds))
+      among_both (length P.methods) (refused_strictly P rel A overs grounds) entries (strictly_there P.methods 0 (whole P rel A overs grounds))
+      (subst (AreAmongMethods (length P.methods)) (append-nil entries) (all_within (length P.methods) entries [] entries_fine tt))
+
+  -- each method by which one of them is more than it may be is told, unless it is atomic
+  pub closed_for : (order : Order) → LeadsAreTold P A (explanations_for order P rel A overs grounds)
+  closed_for Why = leads_are_told P rel A overs grounds
+  closed_for All = leads_are_told P rel A overs grounds
+  closed_for Strict = strict_leads_are_told P rel A overs grounds
 
   -- where none breaks its bound, nothing is explained
   pub nothing_for : (order : Order) → broken_for order P A ≡ [] → explanations_for order P rel A overs grounds ≡ []

@@ -19,7 +19,7 @@ within_more n k [] le w = tt
 within_more n k (x ∷ xs) le w = (let below = w.0 in omega (arith, below, le), within_more n k xs le w.1)
 
 -- none of them is told as refused, and all of them are there
-abbrev AreLed : ℕ → List ExplainedData → Type 0
+abbrev pub AreLed : ℕ → List ExplainedData → Type 0
 AreLed n [] = Unit {0}
 AreLed n (x ∷ xs) = (x.is_refused ≡ false) × (x.method < n) × AreLed n xs
 
@@ -27,11 +27,11 @@ unless : (n : ℕ) (b : Bool) (xs : List ExplainedData) → AreLed n xs → AreL
 unless n true xs a = tt
 unless n false xs a = a
 
-none_refused : (n : ℕ) (more rest : List ExplainedData) → AreLed n more → refused_in (more ++ rest) ≡ refused_in rest
+pub none_refused : (n : ℕ) (more rest : List ExplainedData) → AreLed n more → refused_in (more ++ rest) ≡ refused_in rest
 none_refused n [] rest a = refl
 none_refused n (x ∷ xs) rest a = rw (a.0) (none_refused n xs rest a.2)
 
-all_within : (n : ℕ) (more rest : List ExplainedData) → AreLed n more → AreAmongMethods n rest → AreAmongMethods n (more ++ rest)
+pub all_within : (n : ℕ) (more rest : List ExplainedData) → AreLed n more → AreAmongMethods n rest → AreAmongMethods n (more ++ rest)
 all_within n [] rest a w = w
 all_within n (x ∷ xs) rest a w = (a.1, all_within n xs rest a.2 w)
 
@@ -53,7 +53,7 @@ module _ (P : Program) (rel : ℕ → List PathData) (A : Assignment) (overs : �
   of_method told m (Some method) more is each =
       unless (length P.methods) (unwrap_or (slice_get told m) true || not (keeps A m method)) (more method) (each method (slice_get_within P.methods m method is))
 
-  led_fine : (fuel : ℕ) (told : List Bool) (next : Option ℕ) → AreLed (length P.methods) (led P rel A overs grounds fuel told next)
+  pub led_fine : (fuel : ℕ) (told : List Bool) (next : Option ℕ) → AreLed (length P.methods) (led P rel A overs grounds fuel told next)
   led_fine zero told next = tt
   led_fine (suc fuel) told None = tt
   led_fine (suc fuel) told (Some m) =

@@ -31,7 +31,7 @@ use Rattle.explain_commands.proofs.Placing.{placed}
 use Rattle.explain_commands.specs.Warned.{warnings_text}
 use Rattle.explain_commands.specs.Written.{IsAskedFile, BelongsToFile, too_large, ended}
 use Rattle.reasons.proofs.Fitted.{told_fits}
-use Rattle.explain_commands.proofs.Bounds.{above_for, causes_for, circle_for, exactly_for, grounded_for, named_for, nothing_for, reasons_for}
+use Rattle.explain_commands.proofs.Bounds.{above_for, causes_for, circle_for, closed_for, exactly_for, grounded_for, named_for, nothing_for, reasons_for}
 
 -- the status of how it ends where these methods break their bounds
 two_or_none : (status : ℕ) (ms : List ℕ) → status ≡ code_of (ending_for ms) → ((status ≡ 2) ↔ (ms ≢ [])) × ((status ≡ 0) ↔ (ms ≡ []))
@@ -82,6 +82,7 @@ module _ (call : Call) (name file : List ℕ) where
         methods = exactly_for P (rel_of j.sets) j.assignment (row_at overs) grounds order;
         above = above_for P j.sets j.assignment overs j.typed j.least explains.are_overs order grounds founded;
         reasons = reasons_for P j.sets j.assignment overs j.typed j.least explains.are_overs order grounds founded;
+        closed = closed_for P (rel_of j.sets) j.assignment (row_at overs) grounds order;
         levels = founded.circles;
         circle = circle_for P j.sets j.assignment overs j.typed j.least explains.are_overs order grounds founded;
         causes = causes_for P j.sets j.assignment overs j.typed j.least explains.are_overs order grounds founded;

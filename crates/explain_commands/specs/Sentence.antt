@@ -12,7 +12,7 @@ use Rattle.explain.specs.Causes.{cause_of}
 use Rattle.explain.specs.declared.grounds.Ground.{Ground}
 use Rattle.explain.specs.Fitting.{IsFitting, fitting}
 use Rattle.explain.specs.Grounds.{level_at}
-use Rattle.explain.specs.Leads.{IsReasonChain, IsReasonBy, RunsInCircle}
+use Rattle.explain.specs.Leads.{IsReasonChain, IsReasonBy, LeadsAreTold, RunsInCircle}
 use Rattle.explain.specs.Whys.{ExplainedData, Wrong}
 use Rattle.edge.specs.Calls.{Call, HasNoFault}
 use Rattle.reasons.specs.Causing.{IsCause}
@@ -57,6 +57,9 @@ pub record TellsBroken (order : Order) (call : Call) (name file : List ℕ) (tre
   pub above : (x : ExplainedData) → Contains (explanations_for order P (rel_of sets) assignment (row_at overs) grounds) x → below_of x.found x.limit ≡ false
   pub reasons : (x : ExplainedData) → Contains (explanations_for order P (rel_of sets) assignment (row_at overs) grounds) x → (method : Method) → slice_get P.methods x.method ≡ Some method
       → IsReasonBy P (rel_of sets) assignment (row_at overs x.method) method (level_at grounds x.method) x.limit x.why
+  -- and the methods that are told are closed: each method by which one of them is compound, or that overrides it and is more, is told too,
+  -- unless it is atomic
+  pub closed : LeadsAreTold P assignment (explanations_for order P (rel_of sets) assignment (row_at overs) grounds)
   -- a method is told by a level only where its explanation as it is runs into a circle
   pub levels : (m : ℕ) (level : Basic) → level_at grounds m ≡ Some level → RunsInCircle (bounds_for order) P (rel_of sets) assignment (row_at overs) m
   -- no chain of told methods, each of which is what it is by the next, comes back to where it began

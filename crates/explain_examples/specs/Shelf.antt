@@ -155,5 +155,13 @@ callers = record shelf { methods = plain_method 0 100 false (block_of (run_metho
 abbrev pub calling_main : Program
 calling_main = record shelf { methods = plain_method 0 100 false (block_of (run_method 1)) ∷ plain_method 0 101 false puts ∷ []; main = 1 }
 
+-- `void f() { this.main(); } void main() { this.run(); } public void run() { this.a = 1; this.a = 1; }`, all compound; `run` runs for `run`
+abbrev pub calling_entries : Program
+calling_entries = record shelf {
+  classes = record { fields = []; finals = []; run = Some 2; above = None; targets = [] } ∷ [];
+  methods = plain_method 0 100 false (block_of (run_method 1)) ∷ plain_method 0 101 false (block_of (run_method 2)) ∷ plain_method 0 102 false puts ∷ [];
+  main = 1;
+}
+
 abbrev pub all_compound : Assignment
 all_compound m H = Cmpd

@@ -2,10 +2,10 @@
 ghost use Rattle.std.specs.Prelude.{◌≡◌, true, false, [], ◌∷◌, map, Some, None};
 ghost use Rattle.algebra.specs.declared.basic.Basic.TheVariants.{Atomic, Cmpd, Error};
 ghost use Rattle.core_program.specs.Examples.{plain_method};
-ghost use Rattle.explain.specs.Strict.{led_entries_from, entry_told, is_led_to, is_passed, refused_strictly, strict_explanations, is_thread_entry, is_run, keep_all, keep_from, keeps_strictly, strict_bound, strict_from, strict_limit, strictly_broken, strictly_broken_from, strictly_told};
+ghost use Rattle.explain.specs.Strict.{entries_behind, is_settled, refused_strictly, settled_from, strict_explanations, is_thread_entry, is_run, keep_all, keep_from, keeps_strictly, strict_bound, strict_from, strict_limit, strictly_broken, strictly_broken_from, strictly_told};
 ghost use Rattle.explain_examples.specs.Outlines.{compound, nothing, told_outline, two};
 ghost use Rattle.explain_examples.specs.Page.{locked_put, locking_program, no_locks, running_program};
-ghost use Rattle.explain_examples.specs.Shelf.{all_compound, calling_main, put_in, puts, shelf_paths};
+ghost use Rattle.explain_examples.specs.Shelf.{all_compound, calling_entries, calling_main, put_in, puts, shelf_paths};
 
 /// Which methods threads begin with, and how much each method may be: the program's `main` says `atomic` itself.
 pub fn what_strictness_asks()
@@ -33,15 +33,21 @@ pub fn what_is_told_strictly()
     ensures those { map (λ x. x.method) (map told_outline (strict_from locking_program no_locks all_compound (λ m. []) [] 0 (plain_method 0 0 false locked_put ∷ plain_method 0 0 false locked_put ∷ plain_method 0 0 false locked_put ∷ []))) ≡ 0 ∷ 2 ∷ [] }
 {}
 
-/// What is told behind them: a compound method that a thread begins with, where one of them leads to it.
+/// Which methods need no lines as compound ones: those that are told, and those that are atomic.
+pub fn which_methods_are_settled()
+    ensures one { map (λ m. is_settled calling_main all_compound m (plain_method 0 100 false puts)) (0 ∷ 1 ∷ []) ≡ true ∷ false ∷ [] }
+    ensures atomic { is_settled calling_main (λ m H. Atomic) 1 (plain_method 0 101 false (put_in 0)) ≡ true }
+    ensures all { settled_from calling_main all_compound 0 (plain_method 0 100 false puts ∷ plain_method 0 101 false puts ∷ plain_method 0 102 false puts ∷ []) ≡ true ∷ false ∷ true ∷ [] }
+{}
+
+/// What is told behind them: a compound method that a thread begins with, where one of them leads to it, or one that is led to.
 pub fn which_entries_are_told()
-    ensures led { map (λ m. is_led_to m (refused_strictly calling_main shelf_paths all_compound (λ k. []) [])) (0 ∷ 1 ∷ []) ≡ false ∷ true ∷ [] }
-    ensures passed { map (λ xs. is_passed calling_main all_compound xs 1 (plain_method 0 101 false puts)) ([] ∷ refused_strictly calling_main shelf_paths all_compound (λ k. []) [] ∷ []) ≡ true ∷ false ∷ [] }
-    ensures atomic { is_passed calling_main (λ m H. Atomic) (refused_strictly calling_main shelf_paths all_compound (λ k. []) []) 1 (plain_method 0 101 false (put_in 0)) ≡ true }
-    ensures broken { is_passed calling_main all_compound (refused_strictly calling_main shelf_paths all_compound (λ k. []) []) 0 (plain_method 0 100 false puts) ≡ true }
-    ensures one { map told_outline (entry_told calling_main shelf_paths all_compound (λ k. []) [] (refused_strictly calling_main shelf_paths all_compound (λ k. []) []) 1 (plain_method 0 101 false puts)) ≡
-        record { method = 1; is_refused = false; limit = Atomic; found = Cmpd; why = two 1 4 } ∷ [] }
-    ensures none { map told_outline (led_entries_from calling_main shelf_paths all_compound (λ k. []) [] [] 0 (plain_method 0 100 false puts ∷ plain_method 0 101 false puts ∷ [])) ≡ [] }
+    ensures marked { map (λ told. map told_outline (entries_behind calling_main shelf_paths all_compound (λ k. []) [] told (refused_strictly calling_main shelf_paths all_compound (λ k. []) []))) ((true ∷ false ∷ []) ∷ (true ∷ true ∷ []) ∷ []) ≡
+        (record { method = 1; is_refused = false; limit = Atomic; found = Cmpd; why = two 1 4 } ∷ []) ∷ [] ∷ [] }
+    ensures none { map told_outline (entries_behind calling_main shelf_paths all_compound (λ k. []) [] (false ∷ false ∷ []) []) ≡ [] }
     ensures all { map told_outline (strict_explanations calling_main shelf_paths all_compound (λ k. []) []) ≡
         record { method = 0; is_refused = true; limit = Atomic; found = Cmpd; why = compound 2 } ∷ record { method = 1; is_refused = false; limit = Atomic; found = Cmpd; why = two 1 4 } ∷ [] }
+    ensures both { map told_outline (strict_explanations calling_entries shelf_paths all_compound (λ k. []) []) ≡
+        record { method = 0; is_refused = true; limit = Atomic; found = Cmpd; why = compound 2 } ∷ record { method = 1; is_refused = false; limit = Atomic; found = Cmpd; why = compound 2 }
+        ∷ record { method = 2; is_refused = false; limit = Atomic; found = Cmpd; why = two 1 4 } ∷ [] }
 {}
