@@ -31,3 +31,5 @@ pub mod FirstRanks
 pub mod Writing
 -- A body with a variable final.
 pub mod FinalParts
+-- What an effect asks of a program.
+mod SameFields

@@ -81,5 +81,5 @@ module _ (P : Program) (rel : ℕ → List PathData) (A : Assignment) where
   finalised method x = effect P rel A (final_stmt x method.body) (has_path method.requires_)
 
   -- whether nothing assigns to the variable again, and with it final the body is at most this
-  abbrev pub final_fits : Method → (limit : Basic) → (x : ℕ) → Bool
-  final_fits method limit x = not (assigns x method.body) && below_of (finalised method x) limit
+  abbrev pub final_variable_fits : Method → (limit : Basic) → (x : ℕ) → Bool
+  final_variable_fits method limit x = not (assigns x method.body) && below_of (finalised method x) limit

@@ -10,7 +10,7 @@ pub mod Helping
 -- explanations as plain data (Whys), why a method is more than it may be (Explaining) and
 -- what that means (Meanings), names of locks (Names), which lock a call takes
 -- (Takings), what a step does and which lock would help (Deeds), which lock would help around a whole method (Around), what is wrong
--- with an error (Causes), what becomes of a method where a variable is made final (Finalising), which variable that is (Fitting), what a whole program's explanations are (Programs), what they are where all methods count as
+-- with an error (Causes), what becomes of a method where a variable is made final (Finalising) or a field (FinalFields), which one that is (Fitting), what a whole program's explanations are (Programs), what they are where all methods count as
 -- `atomic` (Strict), and which fields are written though nothing guards them (Unguarded). Views and Walked have what the walk in code finds.
 pub mod Shown
 pub mod Basics
@@ -25,6 +25,7 @@ pub mod Deeds
 pub mod Around
 pub mod Causes
 pub mod Finalising
+pub mod FinalFields
 pub mod Fitting
 pub mod Grounds
 pub mod Programs

@@ -11,6 +11,7 @@ mod circles;
 mod deeds;
 mod errors;
 mod explaining;
+mod final_fields;
 mod finals;
 mod found;
 mod grounds;

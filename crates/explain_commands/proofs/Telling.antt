@@ -86,7 +86,7 @@ module _ (call : Call) (name file : List ℕ) where
         levels = founded.circles;
         circle = circle_for P j.sets j.assignment overs j.typed j.least explains.are_overs order grounds founded;
         causes = causes_for P j.sets j.assignment overs j.typed j.least explains.are_overs order grounds founded;
-        finals = λ x c method is aliases slot fits. told_fits P (rel_of j.sets) j.assignment aliases x method is slot fits;
+        finals = λ x c method is aliases lack fits. told_fits P (rel_of j.sets) j.assignment aliases x method is lack fits;
         places = λ x c method is v named. placed name file tree P core x.method method is v
             (named_for P j.sets j.assignment overs j.typed j.least explains.are_overs order grounds founded x c method is v named);
         refused = by_list.0;

@@ -8,6 +8,7 @@ use Rattle.algebra.specs.declared.basic.Basic.{Basic}
 use Rattle.algebra.specs.Basics.{below_of}
 use Rattle.core_program.specs.Core.{Program, Method}
 use Rattle.explain.specs.declared.names.Alias.{Alias}
+use Rattle.explain.specs.declared.names.Lack.{Lack}
 use Rattle.explain.specs.Causes.{cause_of}
 use Rattle.explain.specs.declared.grounds.Ground.{Ground}
 use Rattle.explain.specs.Fitting.{IsFitting, fitting}
@@ -67,10 +68,10 @@ pub record TellsBroken (order : Order) (call : Call) (name file : List ℕ) (tre
   -- and so has each access or call that lacks a lock: the line tells what lacks there
   pub causes : (x : ExplainedData) → Contains (explanations_for order P (rel_of sets) assignment (row_at overs) grounds) x → (v : Visit) → x.why ≡ Wrong v
       → (aliases : List Alias) → IsCause P (rel_of sets) assignment v.held v.part (cause_of P (rel_of sets) aliases v.held v.part)
-  -- where the lines of a method say of a variable that it isn't final, nothing assigns to it again, and with it final the method's body is at
-  -- most what the method may be
+  -- where the lines of a method say of a variable or a field that it isn't final, it can be: nothing assigns to the variable again, and no method
+  -- to the field, which `Main` hasn't got; and with it final the method's body is at most what the method may be
   pub finals : (x : ExplainedData) → Contains (explanations_for order P (rel_of sets) assignment (row_at overs) grounds) x → (method : Method) → slice_get P.methods x.method ≡ Some method
-      → (aliases : List Alias) (slot : ℕ) → fitting P (rel_of sets) assignment aliases x ≡ Some slot → IsFitting P (rel_of sets) assignment method x.limit slot
+      → (aliases : List Alias) (lack : Lack) → fitting P (rel_of sets) assignment aliases x ≡ Some lack → IsFitting P (rel_of sets) assignment method x.limit lack
   -- the lines of each part that a reason names stand where that stands of which elaboration made the part, and name slots as the source
   -- names the variables in scope there
   pub places : (x : ExplainedData) → Contains (explanations_for order P (rel_of sets) assignment (row_at overs) grounds) x → (method : Method) → slice_get P.methods x.method ≡ Some method → (v : Visit) → IsNamedBy x.why v

@@ -7,6 +7,7 @@ use Rattle.core_program.specs.Examples.{this_path, plain_method}
 use Rattle.paths.specs.Paths.{PathData}
 use Rattle.effects.specs.Parts.{StmtP}
 use Rattle.core_examples.specs.Bodies.{nothing_held}
+use Rattle.explain.specs.declared.names.Lack.TheVariants as lack
 use Rattle.explain.specs.Visits.{Visit}
 use Rattle.explain_text.specs.Pages.{PageData}
 
@@ -22,7 +23,7 @@ page_table = record {
 -- two lines of three bytes each; the slots `this` and `x`; nodes at the second byte of the first line and at the first two of the second; `x`
 -- should be final
 abbrev pub page : PageData
-page = record { file = codes "f"; text = codes "ab\ncd\n"; table = page_table; slots = codes "this" ∷ codes "x" ∷ []; offsets = 1 ∷ 3 ∷ 4 ∷ []; fitting = Some 1 }
+page = record { file = codes "f"; text = codes "ab\ncd\n"; table = page_table; slots = codes "this" ∷ codes "x" ∷ []; offsets = 1 ∷ 3 ∷ 4 ∷ []; fitting = Some (lack.Variable 1) }
 
 -- `this.v = 1;`
 abbrev pub put_field : Stmt

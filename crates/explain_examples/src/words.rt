@@ -25,8 +25,11 @@ pub fn which_names_things_have()
     ensures accesses { map (λ r. access_text page r 0) (None ∷ Some (path 1 []) ∷ []) ≡ codes "A.v" ∷ codes "x.v" ∷ [] }
     ensures held { map (held_list_text page) ([] ∷ (path 1 [] ∷ []) ∷ (path 0 [] ∷ path 1 [] ∷ path 1 (1 ∷ []) ∷ []) ∷ []) ≡ codes "nothing" ∷ codes "x" ∷ codes "this, x, x.n" ∷ [] }
     ensures lacks { map (lack_text page) (lack.Variable 1 ∷ lack.Field 1 ∷ lack.Long ∷ lack.Value ∷ []) ≡
-        codes "x isn't final" ∷ codes "A.n isn't final" ∷ codes "its path would have more than two fields" ∷ codes "it isn't reached by a variable and final fields" ∷ [] }
-    ensures advice { map (λ fitting. lack_text (advised page fitting) (lack.Variable 1)) (Some 1 ∷ Some 2 ∷ None ∷ []) ≡ codes "x isn't final" ∷ codes "x names no lock" ∷ codes "x names no lock" ∷ [] }
+        codes "x isn't final" ∷ codes "A.n names no lock" ∷ codes "its path would have more than two fields" ∷ codes "it isn't reached by a variable and final fields" ∷ [] }
+    ensures advice { map (λ fitting. lack_text (advised page fitting) (lack.Variable 1)) (Some (lack.Variable 1) ∷ Some (lack.Variable 2) ∷ Some (lack.Field 1) ∷ Some lack.Long ∷ None ∷ []) ≡
+        codes "x isn't final" ∷ codes "x names no lock" ∷ codes "x names no lock" ∷ codes "x names no lock" ∷ codes "x names no lock" ∷ [] }
+    ensures field_advice { map (λ fitting. lack_text (advised page fitting) (lack.Field 1)) (Some (lack.Field 1) ∷ Some (lack.Field 0) ∷ Some (lack.Variable 1) ∷ Some lack.Value ∷ None ∷ []) ≡
+        codes "A.n isn't final" ∷ codes "A.n names no lock" ∷ codes "A.n names no lock" ∷ codes "A.n names no lock" ∷ codes "A.n names no lock" ∷ [] }
 {}
 
 /// What is wrong with an error.

@@ -156,8 +156,8 @@ abbrev pub IsWhyText : Program → (ℕ → List PathData) → Assignment → Pa
 IsWhyText P rel A page overs aliases m limit (Wrong v) text = IsErrorLine P rel page aliases v text
 IsWhyText P rel A page overs aliases m limit why text = text ≡ steps_lines P rel A page overs aliases m limit why
 
--- the lines of a method: what it is, and why. Of the variable by which it lacks the name of a lock, if there is one that helps where it is made
--- final, it is said that it isn't.
+-- the lines of a method: what it is, and why. Of the variable or the field by which it lacks the name of a lock, if there is one that helps
+-- where it is made final, it is said that it isn't.
 pub record IsBlock (P : Program) (rel : ℕ → List PathData) (A : Assignment) (page : PageData) (overs : ℕ → List ℕ) (aliases : List Alias) (x : ExplainedData) (text : List ℕ) : Type 0 where
   pub more : List ℕ
   pub text_is : text ≡ head_line P page x ++ more

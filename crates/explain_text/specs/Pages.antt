@@ -1,21 +1,22 @@
 -- What the lines of a method are written with, and how a line begins and ends.
 use Rattle.std.specs.Prelude.{ℕ, List, ◌++◌, Option, codes, slice_get, unwrap_or}
 use Rattle.classes.specs.Table.{TableData}
+use Rattle.explain.specs.declared.names.Lack.{Lack}
 use Rattle.lexer.specs.Places.{line_of, column_of, place_text}
 use Rattle.explain_text.specs.Codes.{ending}
 
 -- the name of the file and its text, the class table, and of the method that is told the names of its slots, the offsets of its nodes, and
--- the variable that helps it where it is made final, if there is one
+-- the variable or the field that helps it where it is made final, if there is one
 pub record PageData : Type 0 where
   pub file : List ℕ
   pub text : List ℕ
   pub table : TableData
   pub slots : List (List ℕ)
   pub offsets : List ℕ
-  pub fitting : Option ℕ
+  pub fitting : Option Lack
 
--- the same, with this variable for the method that is told
-abbrev pub advised : PageData → Option ℕ → PageData
+-- the same, with this variable or field for the method that is told
+abbrev pub advised : PageData → Option Lack → PageData
 advised page fitting = record page { fitting = fitting }
 
 -- the offset of a node; 0 where the method has no such node

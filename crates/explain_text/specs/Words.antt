@@ -39,19 +39,38 @@ abbrev pub held_list_text : PageData → List PathData → List ℕ
 held_list_text page [] = codes "nothing"
 held_list_text page (p ∷ ps) = path_in page p ++ more_held page ps
 
--- whether this is the variable that helps where it is made final
-abbrev pub is_fitting : Option ℕ → ℕ → Bool
-is_fitting None slot = false
-is_fitting (Some x) slot = x == slot
+-- whether this is that variable
+abbrev pub is_lacking_variable : Lack → ℕ → Bool
+is_lacking_variable (lack.Variable x) slot = x == slot
+is_lacking_variable (lack.Field f) slot = false
+is_lacking_variable lack.Long slot = false
+is_lacking_variable lack.Value slot = false
 
--- what is said of a variable that isn't final, by whether it helps to make it final
-abbrev pub variable_words : (helps : Bool) → List ℕ
-variable_words true = codes " isn't final"
-variable_words false = codes " names no lock"
+-- whether this is that field
+abbrev pub is_lacking_field : Lack → ℕ → Bool
+is_lacking_field (lack.Variable x) f = false
+is_lacking_field (lack.Field g) f = g == f
+is_lacking_field lack.Long f = false
+is_lacking_field lack.Value f = false
+
+-- whether this variable is what helps where it is made final
+abbrev pub variable_helps : Option Lack → ℕ → Bool
+variable_helps None slot = false
+variable_helps (Some fitting) slot = is_lacking_variable fitting slot
+
+-- whether this field is
+abbrev pub field_helps : Option Lack → ℕ → Bool
+field_helps None f = false
+field_helps (Some fitting) f = is_lacking_field fitting f
+
+-- what is said of a variable or a field that isn't final, by whether it helps to make it final
+abbrev pub final_words : (helps : Bool) → List ℕ
+final_words true = codes " isn't final"
+final_words false = codes " names no lock"
 
 -- why an expression has no path
 abbrev pub lack_text : PageData → Lack → List ℕ
-lack_text page (lack.Variable slot) = slot_in page slot ++ variable_words (is_fitting page.fitting slot)
-lack_text page (lack.Field f) = field_title page.table f ++ codes " isn't final"
+lack_text page (lack.Variable slot) = slot_in page slot ++ final_words (variable_helps page.fitting slot)
+lack_text page (lack.Field f) = field_title page.table f ++ final_words (field_helps page.fitting f)
 lack_text page lack.Long = codes "its path would have more than two fields"
 lack_text page lack.Value = codes "it isn't reached by a variable and final fields"

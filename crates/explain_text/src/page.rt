@@ -6,12 +6,13 @@ ghost use Rattle.explain_text.specs.Blocks.{kind_word};
 ghost use Rattle.explain_text.specs.Views.{page_data};
 
 use classes::ClassTable;
+use explain::Lack;
 use places::{LineIndex, SlotNames};
 use report::write_place;
 use std::alloc::{AllocError as NoMemory, Global};
 
 /// The name of the file, where its lines are, the class table, and of the method that is told the names of its slots, the offsets of its
-/// nodes, and the variable that helps it where it is made final, if there is one.
+/// nodes, and the variable or the field that helps it where it is made final, if there is one.
 #[derive(Clone, Copy)]
 pub struct Page<'t, 'a> {
     pub file: &'t str,
@@ -19,11 +20,11 @@ pub struct Page<'t, 'a> {
     pub table: &'t ClassTable<'a>,
     pub slots: &'t SlotNames<'a>,
     pub offsets: &'t [u32],
-    pub fitting: Option<u16>,
+    pub fitting: Option<Lack>,
 }
 
-/// The same, with this variable for the method that is told.
-pub(crate) fn advised<'t, 'a>(page: &Page<'t, 'a>, fitting: Option<u16>) -> Page<'t, 'a>
+/// The same, with this variable or field for the method that is told.
+pub(crate) fn advised<'t, 'a>(page: &Page<'t, 'a>, fitting: Option<Lack>) -> Page<'t, 'a>
     ensures { page_data result ≡ advised (page_data page.now) fitting }
 {
     Page {

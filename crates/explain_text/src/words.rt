@@ -4,7 +4,7 @@ ghost use Rattle.std.specs.Prelude.{◌≡◌, ◌++◌, [], option_and_then, op
 ghost use Rattle.classes.specs.Views.{table_data};
 ghost use Rattle.report.specs.Verdicts.{field_text};
 ghost use Rattle.explain_text.specs.Views.{page_data};
-ghost use Rattle.explain_text.specs.Words.{access_text, field_title, held_list_text, is_fitting, lack_text, more_held, path_in, variable_words};
+ghost use Rattle.explain_text.specs.Words.{access_text, field_title, field_helps, final_words, held_list_text, is_lacking_field, is_lacking_variable, lack_text, more_held, path_in, variable_helps};
 
 use crate::page::Page;
 use classes::ClassTable;
@@ -103,19 +103,49 @@ pub(crate) fn write_held(
     write_more(out, page, rest)
 }
 
-/// Whether this is the variable that helps where it is made final.
-fn is_fitting(fitting: Option<u16>, slot: u16) -> bool
-    ensures { result ≡ is_fitting fitting slot }
+/// Whether this is that variable.
+fn is_lacking_variable(lack: Lack, slot: u16) -> bool
+    ensures { result ≡ is_lacking_variable lack slot }
+{
+    match lack {
+        Lack::Variable(other) => other == slot,
+        Lack::Field(_) | Lack::Long | Lack::Value => false,
+    }
+}
+
+/// Whether this is that field.
+fn is_lacking_field(lack: Lack, field: FieldId) -> bool
+    ensures { result ≡ is_lacking_field lack field }
+{
+    match lack {
+        Lack::Field(other) => other == field,
+        Lack::Variable(_) | Lack::Long | Lack::Value => false,
+    }
+}
+
+/// Whether this variable is what helps where it is made final.
+fn variable_helps(fitting: Option<Lack>, slot: u16) -> bool
+    ensures { result ≡ variable_helps fitting slot }
 {
     match fitting {
-        Some(other) => other == slot,
+        Some(lack) => is_lacking_variable(lack, slot),
         None => false,
     }
 }
 
-/// What is said of a variable that isn't final, by whether it helps to make it final.
-fn variable_words(helps: bool) -> &'static str
-    ensures { result.now ≡ variable_words helps }
+/// Whether this field is.
+fn field_helps(fitting: Option<Lack>, field: FieldId) -> bool
+    ensures { result ≡ field_helps fitting field }
+{
+    match fitting {
+        Some(lack) => is_lacking_field(lack, field),
+        None => false,
+    }
+}
+
+/// What is said of a variable or a field that isn't final, by whether it helps to make it final.
+fn final_words(helps: bool) -> &'static str
+    ensures { result.now ≡ final_words helps }
 {
     if helps {
         " isn't final"
@@ -131,11 +161,11 @@ pub(crate) fn write_lack(out: &mut String, page: &Page<'_, '_>, lack: Lack) -> R
     match lack {
         Lack::Variable(slot) => {
             out.push_str(page.slots.name(slot))?;
-            out.push_str(variable_words(is_fitting(page.fitting, slot)))
+            out.push_str(final_words(variable_helps(page.fitting, slot)))
         }
         Lack::Field(field) => {
             write_field(out, page.table, field)?;
-            out.push_str(" isn't final")
+            out.push_str(final_words(field_helps(page.fitting, field)))
         }
         Lack::Long => out.push_str("its path would have more than two fields"),
         Lack::Value => out.push_str("it isn't reached by a variable and final fields"),

@@ -16,10 +16,10 @@ ghost use Rattle.rules.specs.Overriding.{AreOverriders};
 ghost use Rattle.rules.specs.Rules.{AtMost, IsSubset};
 ghost use Rattle.rules.specs.Search.{row_at};
 ghost use Rattle.explain.specs.declared.names.Alias.{Alias};
+ghost use Rattle.explain.specs.declared.names.Lack.{Lack};
 ghost use Rattle.explain.specs.Causes.{cause_of};
 ghost use Rattle.explain.specs.Deeds.{help_of};
-ghost use Rattle.explain.specs.Finalising.{final_fits};
-ghost use Rattle.explain.specs.Fitting.{first_variable, fitting, IsFitting};
+ghost use Rattle.explain.specs.Fitting.{final_fits, first_lack, fitting, IsFitting};
 ghost use Rattle.explain.specs.declared.grounds.Ground.{Ground};
 ghost use Rattle.explain.specs.declared.ranking.Bounds.{Bounds};
 ghost use Rattle.explain.specs.declared.ranking.Bounds.TheVariants.{Declared, Strict};
@@ -108,14 +108,15 @@ pub fn help_laws()
         below_of (own_of P rel A x H) Mover ≡ false → IsHelp P rel A x H (help_of P rel A aliases x H) }
 {}
 
-/// Where it is told of a variable that it isn't final, that is the first variable by which the method lacks the name of a lock; nothing assigns
-/// to it again, and with it final the method's body is at most what the method may be. Of the first one that isn't told so, to make it final
-/// doesn't help. That the changed program has the same assignment isn't said.
+/// Where it is told of a variable or a field that it isn't final, that is the first one by which the method lacks the name of a lock. It can be
+/// final: nothing assigns to the variable again, and no method to the field, which `Main` hasn't got. With it final the method's body is at most
+/// what the method may be. Of the first one that isn't told so, to make it final doesn't help. That the changed program has the same assignment
+/// isn't said.
 pub fn final_laws()
     ensures first { (P : Program) (rel : ℕ → List PathData) (A : Assignment) (aliases : List Alias) (x : ExplainedData) (method : Method) →
-        slice_get P.methods x.method ≡ Some method → (slot : ℕ) → fitting P rel A aliases x ≡ Some slot → first_variable P rel A aliases x.why ≡ Some slot }
+        slice_get P.methods x.method ≡ Some method → (lack : Lack) → fitting P rel A aliases x ≡ Some lack → first_lack P rel A aliases x.why ≡ Some lack }
     ensures fits { (P : Program) (rel : ℕ → List PathData) (A : Assignment) (aliases : List Alias) (x : ExplainedData) (method : Method) →
-        slice_get P.methods x.method ≡ Some method → (slot : ℕ) → fitting P rel A aliases x ≡ Some slot → IsFitting P rel A method x.limit slot }
+        slice_get P.methods x.method ≡ Some method → (lack : Lack) → fitting P rel A aliases x ≡ Some lack → IsFitting P rel A method x.limit lack }
     ensures none { (P : Program) (rel : ℕ → List PathData) (A : Assignment) (aliases : List Alias) (x : ExplainedData) (method : Method) →
-        slice_get P.methods x.method ≡ Some method → (slot : ℕ) → first_variable P rel A aliases x.why ≡ Some slot → fitting P rel A aliases x ≡ None → final_fits P rel A method x.limit slot ≡ false }
+        slice_get P.methods x.method ≡ Some method → (lack : Lack) → first_lack P rel A aliases x.why ≡ Some lack → fitting P rel A aliases x ≡ None → final_fits P rel A method x.limit lack ≡ false }
 {}
