@@ -11,6 +11,8 @@ use Rattle.core_program.specs.declared.program.CoreProgram.{CoreProgram}
 use Rattle.core_program.specs.Core.{Expr, IntE, TruthE, NullE, ThisE, VarE, NotE, NegE, BinaryE, AndE, OrE, GetE, CallE, NewE, Exprs, no_exprs, and_expr}
 use Rattle.core_program.specs.Core.{Stmt, EmptyS, BlockS, LocalS, SetVarS, SetFieldS, DoS, IfS, WhileS, SyncS, ReturnS, PrintS, StartS, Stmts, no_stmts, and_stmt}
 use Rattle.core_program.specs.Core.{Class, Field, Method, Program}
+use Rattle.core_program.specs.Kept.{kept_class}
+use Rattle.core_program.specs.Pairs.{KeptClass, class_with_pairs}
 
 -- Expressions and rows of arguments as plain data.
 abbrev mutual
@@ -58,9 +60,13 @@ abbrev mutual
   stmts_of end_of-CoreStmt = no_stmts
   stmts_of (more_of-CoreStmt a rest) = and_stmt (stmt_of a) (stmts_of rest)
 
--- a class as plain data
-abbrev pub core_class_of : CoreClass → Class
-core_class_of c = record { fields = c.fields.items; finals = c.finals.items; run = c.run; above = c.above; targets = c.targets.items }
+-- what a program keeps of its classes
+abbrev pub kept_classes : CoreProgram → List KeptClass
+kept_classes p = map kept_class p.classes.items
+
+-- a class of a program as plain data, with the pairs that the program tells
+abbrev pub core_class_of : CoreProgram → CoreClass → Class
+core_class_of p c = class_with_pairs (kept_classes p) p.names.items (kept_class c)
 
 -- a field as plain data
 abbrev pub field_of : CoreField → Field
@@ -82,7 +88,7 @@ method_of m = record {
 -- a program as plain data
 abbrev pub program_of : CoreProgram → Program
 program_of p = record {
-  classes = map core_class_of p.classes.items;
+  classes = map (class_with_pairs (kept_classes p) p.names.items) (kept_classes p);
   fields = map field_of p.fields.items;
   methods = map method_of p.methods.items;
   main_class = p.main_class;

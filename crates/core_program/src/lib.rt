@@ -3,7 +3,9 @@
 
 pub mod examples;
 mod laws;
+mod lent;
 mod lock;
+mod overriding;
 mod program;
 mod tree;
 mod types;

@@ -171,6 +171,7 @@ fn program_with(
         classes: Vec::new(alloc),
         fields,
         methods,
+        names: Vec::new(alloc),
         main_class: program.main_class,
         main: program.main,
     })

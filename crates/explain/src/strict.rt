@@ -2,7 +2,7 @@
 
 ghost use Rattle.std.specs.Prelude.{◌≡◌, ◌≤◌, ◌^◌, ◌++◌, map, length, IfOk, OnOk};
 ghost use Rattle.std.specs.List.{list_any};
-ghost use Rattle.core_program.specs.Views.{core_class_of, method_of, program_of};
+ghost use Rattle.core_program.specs.Views.{method_of, program_of};
 ghost use Rattle.rules.specs.Near.{rel_of};
 ghost use Rattle.rules.specs.Search.{row_at};
 ghost use Rattle.explain.specs.Strict.{entries_behind, is_settled, is_thread_entry, is_run, keep_all, keeps_strictly, refused_strictly, settled_from, strict_bound, strict_explanations, strict_limit, strictly_told};
@@ -12,7 +12,7 @@ use crate::grounds::Ground;
 use crate::program::{Basis, Explained, explain_method, follow, led_to};
 use crate::walk::Walk;
 use algebra::Basic;
-use core_program::{CoreClass, CoreMethod, CoreProgram};
+use core_program::{CoreMethod, CoreProgram};
 use effects::Assigned;
 use paths::MethodId;
 use rules::{OverridingMethods, bound_of};
@@ -28,11 +28,11 @@ fn is_run(id: MethodId, run: Option<MethodId>) -> bool
     }
 }
 
-/// Whether it does so for one of these classes.
-fn runs(id: MethodId, classes: &[CoreClass]) -> bool
-    ensures { result ≡ list_any (λ c. is_run id c.run) (map core_class_of classes.now) }
+/// Whether it does so for one of a program's classes.
+fn runs(program: &CoreProgram, id: MethodId) -> bool
+    ensures { result ≡ list_any (λ c. is_run id c.run) (program_of program.now).classes }
 {
-    for class in classes {
+    for class in program.classes() {
         if is_run(id, class.run) {
             return true;
         }
@@ -44,7 +44,7 @@ fn runs(id: MethodId, classes: &[CoreClass]) -> bool
 fn is_thread_entry(program: &CoreProgram, id: MethodId) -> bool
     ensures { result ≡ is_thread_entry (program_of program.now) id }
 {
-    id == program.main || runs(id, program.classes())
+    id == program.main || runs(program, id)
 }
 
 /// The greatest basic that a method may have.

@@ -224,7 +224,7 @@ pub fn object_values(
 ) -> Result<Vec<Value>, NoMemory>
     ensures { IfOk result (λ v. v.items ≡ new_values (program_of program.now) (fields_of (slice_get (program_of program.now).classes class)) (listed count (reverse operands.now))) }
 {
-    match program.classes.get(class.0 as usize) {
+    match program.classes().get(class.0 as usize) {
         Some(found) => values_of(alloc, program, found.fields.as_slice(), operands, count),
         None => Ok(Vec::new(alloc)),
     }

@@ -160,7 +160,7 @@ fn run_of(seen: &Seen<'_>, class: Option<ClassId>) -> Option<MethodId>
 pub fn run_of_class(program: &CoreProgram, class: ClassId) -> Option<MethodId>
     ensures { result ≡ run_of_class (slice_get (program_of program.now).classes class) }
 {
-    match program.classes.get(class.0 as usize) {
+    match program.classes().get(class.0 as usize) {
         Some(found) => found.run,
         None => None,
     }

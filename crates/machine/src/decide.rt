@@ -124,7 +124,7 @@ fn branches(next: u32, other: u32, condition: bool) -> Deed
 fn lists(program: &CoreProgram, class: ClassId, index: u16, field: FieldId) -> bool
     ensures { result ≡ lists (slice_get (program_of program.now).classes class) index field }
 {
-    match program.classes.get(class.0 as usize) {
+    match program.classes().get(class.0 as usize) {
         Some(class) => match class.fields.get(index as usize) {
             Some(listed) => *listed == field,
             None => false,
@@ -222,7 +222,7 @@ fn writes(
 fn makes(program: &CoreProgram, next: u32, class: ClassId) -> Deed
     ensures { result ≡ makes next class (slice_get (program_of program.now).classes class) }
 {
-    match program.classes.get(class.0 as usize) {
+    match program.classes().get(class.0 as usize) {
         Some(found) => Deed::Makes {
             class,
             arguments: found.finals.len(),

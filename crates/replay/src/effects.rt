@@ -154,7 +154,7 @@ pub(crate) fn write(
 fn lacks_class(program: &CoreProgram, class: ClassId) -> bool
     ensures { result ≡ not (is_some (slice_get (program_of program.now).classes class)) }
 {
-    program.classes.get(class.0 as usize).is_none()
+    program.classes().get(class.0 as usize).is_none()
 }
 
 /// The count of a thread's next object, where it isn't too large.

@@ -11,7 +11,6 @@ pub mod Reaching
 pub mod PathLists
 pub mod SearchLemmas
 pub mod OverridingLemmas
-mod Ascending
 pub mod LimitLemmas
 pub mod UniqueSets
 pub mod Required

@@ -1,15 +1,15 @@
 -- What is reached by a program's clauses are the near paths.
-use Rattle.std.proofs.Common.{◌≡◌, ℕ, zero, suc, ◌+◌, ◌<◌, ◌≤◌, Bool, true, false, not, ◌==◌, ◌&&◌, List, [], ◌∷◌, ◌++◌, length, map, Some, None, refl, sym, ap, subst, ◌∙◌, arith, inl, inr}
+use Rattle.std.proofs.Common.{◌≡◌, ℕ, zero, suc, ◌+◌, ◌<◌, ◌≤◌, Bool, true, false, ◌==◌, ◌&&◌, List, [], ◌∷◌, ◌++◌, length, map, Some, None, refl, sym, ap, subst, ◌∙◌, arith, inl, inr}
 use Rattle.std.specs.Prelude.{Option, Contains, slice_get, nat_le, if◌then◌else◌}
 use Rattle.std.proofs.lemmas.List.Elements.{Contains-append_left, Contains-append_right, Contains-append_cases}
 use Rattle.std.proofs.lemmas.Bool.Decides.{nat_tests}
-use Rattle.std.proofs.lemmas.Bool.{le-leb, leb-true, eqb-true, eq-eqb, ne_eqb, and_parts, and_from, not-true, not_from_false}
+use Rattle.std.proofs.lemmas.Bool.{le-leb, leb-true, eqb-true, eq-eqb, and_from}
 use Rattle.std.proofs.lemmas.Option.{none-some, same_Some, slice_get_within}
 use Rattle.base.proofs.Lists.{contains_cases, contains_later}
 use Rattle.paths.specs.Paths.{PathData, extended, extended_some}
 use Rattle.paths.specs.Renamings.{argument_at, passed}
 use Rattle.core_program.specs.Core.{Program, Class, Method, Expr, Exprs}
-use Rattle.core_program.specs.Dispatch.{partner, targets_in, target_of, Overrides}
+use Rattle.core_program.specs.Dispatch.{partner, targets_in, Overrides}
 use Rattle.core_program.specs.Locks.{path_of}
 use Rattle.rules.specs.Guards.{guard_of, guard_path}
 use Rattle.rules.specs.Mentions.{Mention, Accesses, Calls, Locks, Names, mentions, paths_of}
@@ -18,7 +18,7 @@ use Rattle.rules.specs.declared.clauses.Way.TheVariants as way
 use Rattle.rules.specs.declared.clauses.Link.{Link}
 use Rattle.rules.specs.declared.clauses.Clause.{Clause}
 use Rattle.rules.specs.declared.clauses.Clause.TheVariants as clause
-use Rattle.rules.specs.Clauses.{fact, link_clauses, passed_clauses, all_passed, params_of, call_clauses, guard_clauses, clauses_at, clauses_of, method_clauses, clauses_from, method_class, is_this_number, is_over, kept_clauses, led_by, ReachedPath, given, led}
+use Rattle.rules.specs.Clauses.{fact, link_clauses, passed_clauses, all_passed, params_of, call_clauses, guard_clauses, clauses_at, clauses_of, method_clauses, clauses_from, method_class, is_this_number, kept_clauses, led_by, ReachedPath, given, led}
 use Rattle.rules.specs.Search.{row_at}
 use Rattle.rules.specs.Passing.{row_clauses, rows_clauses}
 
@@ -140,22 +140,6 @@ all_sound P m (method ∷ methods) at = both_sound P _ _
 pub number_is : (o : Option ℕ) (n : ℕ) → is_this_number o n ≡ true → o ≡ Some n
 number_is None n e = absurd (let k : false ≡ true = e in cc)
 number_is (Some k) n e = ap Some (eqb-true k n e)
-
-pub method_of : (o : Option Method) (c : ℕ) → method_class o ≡ Some c → (method : Method) × (o ≡ Some method) × (method.class ≡ c)
-method_of None c e = absurd (none-some c e)
-method_of (Some method) c e = (method, refl, same_Some method.class c e)
-
-pub overrides_of : (P : Program) (c : ℕ) (p : ℕ × ℕ) → is_over P c p ≡ true → Overrides P p.1 p.0
-overrides_of P c p e =
-    let first = and_parts (not (p.1 == p.0)) (is_this_number (method_class (slice_get P.methods p.1)) c && is_this_number (target_of P c p.0) p.1) e in
-    let second = and_parts (is_this_number (method_class (slice_get P.methods p.1)) c) (is_this_number (target_of P c p.0) p.1) first.1 in
-    let there = method_of (slice_get P.methods p.1) c (number_is (method_class (slice_get P.methods p.1)) c second.0) in
-    record {
-      differs = λ same. let t : true ≡ false = sym (eq-eqb p.1 p.0 same) ∙ not-true (p.1 == p.0) first.0 in cc;
-      method = there.0;
-      is = there.1;
-      runs = ap (λ d. target_of P d p.0) there.2 ∙ number_is (target_of P c p.0) p.1 second.1;
-    }
 
 kept_sound : (P : Program) (over m : ℕ) → Overrides P over m → (first second : Option Method) → slice_get P.methods over ≡ first → slice_get P.methods m ≡ second → AllSound P (kept_clauses over m (params_of first) (method_class second))
 kept_sound P over m o None second is_first is_second = none_sound P
@@ -285,15 +269,6 @@ partner_in (p ∷ ps) m n e = by_first (p.0 == m) refl (partner_in ps m n) e
 pub class_with : (o : Option Class) (m n : ℕ) → partner (targets_in o) m ≡ Some n → (class : Class) × (o ≡ Some class) × (partner class.targets m ≡ Some n)
 class_with None m n e = absurd (none-some n e)
 class_with (Some class) m n e = (class, refl, e)
-
-module _ (P : Program) (over m : ℕ) (o : Overrides P over m) where
-  pub over_true : is_over P o.method.class (m, over) ≡ true
-  over_true =
-      and_from (not (over == m)) (is_this_number (method_class (slice_get P.methods over)) o.method.class && is_this_number (target_of P o.method.class m) over)
-      (not_from_false (over == m) (ne_eqb over m o.differs))
-      (and_from (is_this_number (method_class (slice_get P.methods over)) o.method.class) (is_this_number (target_of P o.method.class m) over)
-      (ap (λ x. is_this_number (method_class x) o.method.class) o.is ∙ eq-eqb o.method.class o.method.class refl)
-      (ap (λ x. is_this_number x over) o.runs ∙ eq-eqb over over refl))
 
 -- What overriding methods tell is among the clauses of the rows.
 

@@ -1,8 +1,7 @@
 -- The rules of the family of near paths, as the bodies of a program have them: facts, and links from one method's paths to another's.
-use Rattle.std.specs.Prelude.{nat_lt, ◌≡◌, ℕ, ◌+◌, Bool, true, false, not, ◌&&◌, ◌==◌, List, [], ◌∷◌, ◌++◌, map, length, nat_le, Option, Some, None, Contains, slice_get, if◌then◌else◌}
+use Rattle.std.specs.Prelude.{◌≡◌, ℕ, ◌+◌, Bool, false, ◌&&◌, ◌==◌, List, [], ◌∷◌, ◌++◌, map, length, nat_le, Option, Some, None, Contains, slice_get, if◌then◌else◌}
 use Rattle.paths.specs.Paths.{PathData, extended}
 use Rattle.core_program.specs.Core.{Program, Method}
-use Rattle.core_program.specs.Dispatch.{target_of}
 use Rattle.core_program.specs.Locks.{path_of}
 use Rattle.rules.specs.Guards.{guard_of, guard_path}
 use Rattle.rules.specs.Near.{begins_in}
@@ -76,16 +75,6 @@ method_class (Some m) = Some m.class
 abbrev pub is_this_number : Option ℕ → ℕ → Bool
 is_this_number None n = false
 is_this_number (Some k) n = k == n
-
--- the first numbers of these pairs ascend
-abbrev pub ascend : List (ℕ × ℕ) → Bool
-ascend [] = true
-ascend (p ∷ []) = true
-ascend (p ∷ (q ∷ ps)) = nat_lt p.0 q.0 && ascend (q ∷ ps)
-
--- this pair of a class has a method of the class itself, which overrides the other
-abbrev pub is_over : Program → ℕ → ℕ × ℕ → Bool
-is_over P c p = not (p.1 == p.0) && (is_this_number (method_class (slice_get P.methods p.1)) c && is_this_number (target_of P c p.0) p.1)
 
 -- what an overriding method with so many parameters tells a method of a class, where both are there
 abbrev pub kept_clauses : (over m : ℕ) → Option ℕ → Option ℕ → List Clause

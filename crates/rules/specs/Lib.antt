@@ -12,9 +12,8 @@ pub mod Clauses
 pub mod Search
 pub mod Overriding
 pub mod Limits
--- What the contract cites (Nearest), and which pairs of a class the rows take (Pairs).
+-- The rows of nearest methods that override (Nearest).
 pub mod Nearest
-pub mod Pairs
 pub mod Passing
 -- Which methods a body calls, and the callers of each method (Called).
 pub mod Called

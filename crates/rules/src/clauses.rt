@@ -1,9 +1,8 @@
 //! The rules of the family of near paths, as the bodies of a program have them.
-ghost use Rattle.std.specs.Prelude.{◌≡◌, ◌≤◌, ◌^◌, ◌+◌, ◌++◌, true, Some, length, OnOk, IfOk, slice_get};
+ghost use Rattle.std.specs.Prelude.{◌≡◌, ◌≤◌, ◌^◌, ◌++◌, length, OnOk, IfOk, slice_get};
 ghost use Rattle.core_program.specs.Views.{program_of};
-ghost use Rattle.rules.specs.Clauses.{params_of, ascend, method_class, is_this_number, is_over, kept_clauses};
+ghost use Rattle.rules.specs.Clauses.{params_of, method_class, kept_clauses};
 ghost use Rattle.rules.specs.Passing.{GiveNear};
-ghost use Rattle.core_program.specs.Dispatch.{target_of};
 
 use crate::body_clauses::clauses_of;
 use crate::passing::add_overriding;
@@ -94,83 +93,6 @@ pub(crate) fn program_clauses(alloc: Global, program: &CoreProgram) -> Result<Ve
     let mut clauses = clauses_of(alloc, program)?;
     add_overriding(alloc, program, &mut clauses)?;
     Ok(clauses)
-}
-
-/// The number after this one. There is no memory for more classes than numbers.
-pub(crate) fn next_class(number: u32) -> Result<u32, NoMemory>
-    ensures { IfOk result (λ n. n ≡ number + 1) }
-{
-    match number.checked_add(1) {
-        Some(next) => Ok(next),
-        None => Err(NoMemory),
-    }
-}
-
-/// Whether the first methods of the pairs ascend, as they do in a typed program. Then each pair says by itself which
-/// method runs, and none is looked up.
-pub(crate) fn ascend(pairs: &[(MethodId, MethodId)]) -> bool
-    ensures { result ≡ true → ascend pairs.now ≡ true }
-{
-    let mut rest = pairs;
-    while let Some((first, others)) = rest.split_first() {
-        if let Some(second) = others.first() {
-            if second.0.0 <= first.0.0 {
-                return false;
-            }
-        }
-        rest = others;
-    }
-    true
-}
-
-/// Whether the pair has a method of the class itself, which overrides the other.
-pub(crate) fn is_over(
-    program: &CoreProgram,
-    class: ClassId,
-    method: MethodId,
-    over: MethodId,
-    is_known: bool,
-) -> bool
-    requires { is_known ≡ true → target_of (program_of program.now) class method ≡ Some over }
-    ensures { result ≡ is_over (program_of program.now) class (method, over) }
-{
-    over != method
-        && is_of_class(program, over, class)
-        && runs(program, class, method, over, is_known)
-}
-
-/// Whether a class runs the second method for the first.
-fn runs(
-    program: &CoreProgram,
-    class: ClassId,
-    method: MethodId,
-    over: MethodId,
-    is_known: bool,
-) -> bool
-    requires { is_known ≡ true → target_of (program_of program.now) class method ≡ Some over }
-    ensures { result ≡ is_this_number (target_of (program_of program.now) class method) over }
-{
-    is_known || is_target(program, class, method, over)
-}
-
-/// Whether a method is there and is the class's own.
-fn is_of_class(program: &CoreProgram, method: MethodId, class: ClassId) -> bool
-    ensures { result ≡ is_this_number (method_class (slice_get (program_of program.now).methods method)) class }
-{
-    match class_of(program, method) {
-        Some(own) => own == class,
-        None => false,
-    }
-}
-
-/// Whether a class runs this method for the other.
-fn is_target(program: &CoreProgram, class: ClassId, method: MethodId, over: MethodId) -> bool
-    ensures { result ≡ is_this_number (target_of (program_of program.now) class method) over }
-{
-    match program.target(class, method) {
-        Some(target) => target == over,
-        None => false,
-    }
 }
 
 /// The class of a method, where it is there.

@@ -21,7 +21,6 @@ mod renaming;
 mod rows_of_overriding;
 mod search;
 mod sets;
-mod targets;
 
 pub use caller_laws::only_callees_count;
 pub use callers::{Callers, callers_of};

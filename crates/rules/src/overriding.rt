@@ -1,14 +1,13 @@
 //! The methods that override others, by those that they override.
-ghost use Rattle.std.specs.Prelude.{◌≡◌, ◌++◌, ℕ, true, Some, slice_get, IfOk, OnOk};
-ghost use Rattle.core_program.specs.Dispatch.{target_of, targets_in};
+ghost use Rattle.std.specs.Prelude.{◌≡◌, ◌++◌, ℕ, IfOk, OnOk};
+ghost use Rattle.core_program.specs.Dispatch.{Overrides};
 ghost use Rattle.core_program.specs.Views.{program_of};
-ghost use Rattle.rules.specs.Overriding.{pair_overriders, pairs_overriders, AreOverriders};
+ghost use Rattle.rules.specs.Overriding.{told_each, AreOverriders, IsAddedTo};
 ghost use Rattle.rules.specs.Search.{row_at, rows_of};
 
-use crate::clauses::{ascend, is_over, next_class};
 use crate::search::{push_at, row};
 use core_program::CoreProgram;
-use paths::{ClassId, MethodId};
+use paths::MethodId;
 use std::alloc::{AllocError as NoMemory, Global};
 use std::marker::Model;
 
@@ -36,63 +35,53 @@ impl OverridingMethods {
     }
 }
 
-/// For each method of a program those that override it. Only the pairs of a class whose method is the class's own are
-/// looked up among all.
+/// The method at a place. There is no memory for more methods than numbers.
+pub(crate) fn method_at(place: usize) -> Result<MethodId, NoMemory>
+    ensures { IfOk result (λ method. method ≡ place) }
+{
+    match u32::try_from(place) {
+        Ok(number) => Ok(MethodId(number)),
+        Err(_) => Err(NoMemory),
+    }
+}
+
+/// For each method of a program those that override it.
 pub fn overriders(alloc: Global, program: &CoreProgram) -> Result<OverridingMethods, NoMemory>
     ensures { IfOk result (AreOverriders (program_of program.now)) }
 {
-    let classes = program.classes();
     let mut rows = Vec::new(alloc);
-    let mut number = 0;
-    for place in 0..classes.len() {
-        add_pairs(
-            alloc,
-            program,
-            ClassId(number),
-            classes[place].targets.as_slice(),
-            &mut rows,
-        )?;
-        number = next_class(number)?;
+    let count = program.methods().len();
+    for place in 0..count {
+        add_overridden(alloc, program, method_at(place)?, &mut rows)?;
     }
     Ok(OverridingMethods { rows })
 }
 
-/// Adds the overriding methods of a class's pairs.
-fn add_pairs(
+/// Adds a method to the rows of those that it overrides.
+fn add_overridden(
     alloc: Global,
     program: &CoreProgram,
-    class: ClassId,
-    pairs: &[(MethodId, MethodId)],
+    over: MethodId,
     rows: &mut Vec<Vec<MethodId>>,
 ) -> Result<(), NoMemory>
-    requires { pairs.now ≡ targets_in (slice_get (program_of program.now).classes class) }
-    ensures { OnOk result ((m : ℕ) →
-        row_at (rows_of rows.new.items) m ≡ row_at (rows_of rows.old.items) m ++ pairs_overriders (program_of program.now) class pairs.now m) }
+    ensures { OnOk result (IsAddedTo (λ m. Overrides (program_of program.now) over m) over (rows_of rows.old.items) (rows_of rows.new.items)) }
 {
-    let is_known = ascend(pairs);
-    for place in 0..pairs.len() {
-        add_pair(alloc, program, class, &pairs[place], is_known, rows)?;
-    }
+    let all = program.overridden(alloc, over)?;
+    add_to_each(alloc, all.as_slice(), over, rows)?;
     Ok(())
 }
 
-/// Adds the method of a pair of a class, where it is the class's and overrides the other.
-fn add_pair(
+/// Adds a method to the rows of these.
+fn add_to_each(
     alloc: Global,
-    program: &CoreProgram,
-    class: ClassId,
-    pair: &(MethodId, MethodId),
-    is_known: bool,
+    all: &[MethodId],
+    over: MethodId,
     rows: &mut Vec<Vec<MethodId>>,
 ) -> Result<(), NoMemory>
-    requires { is_known ≡ true → target_of (program_of program.now) class pair.now.0 ≡ Some pair.now.1 }
-    ensures { OnOk result ((m : ℕ) →
-        row_at (rows_of rows.new.items) m ≡ row_at (rows_of rows.old.items) m ++ pair_overriders (program_of program.now) class pair.now m) }
+    ensures { OnOk result ((m : ℕ) → row_at (rows_of rows.new.items) m ≡ row_at (rows_of rows.old.items) m ++ told_each over all.now m) }
 {
-    let (method, over) = *pair;
-    if is_over(program, class, method, over, is_known) {
-        push_at(alloc, rows, method, over)
-    } else {
-        Ok(())
+    for method in all {
+        push_at(alloc, rows, *method, over)?;
     }
+    Ok(())
 }

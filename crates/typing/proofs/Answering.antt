@@ -1,14 +1,21 @@
 -- What the top call tells of a program.
-use Rattle.std.proofs.Common.{◌≡◌, ◌⊎◌, inl, inr, List, Option, Some, None, Result, Ok, Err, option_map, ap, sym, ◌∙◌, refl}
-use Rattle.std.specs.Prelude.{MatchResult, IsSome}
+use Rattle.std.proofs.Common.{◌≡◌, ◌⊎◌, inl, inr, List, Option, Some, None, Result, Ok, Err, map, option_map, ap, sym, subst, ◌∙◌, refl}
+use Rattle.std.specs.Prelude.{ℕ, IfSome, MatchResult, IsSome, Vec}
+use Rattle.std.specs.declared.alloc.Global.{Global}
+use Rattle.std.proofs.lemmas.Simd.{map-map}
+use Rattle.std.proofs.lemmas.Option.{none-some, same_Some}
 use Rattle.core_program.specs.Core.{Program, Field, Method}
+use Rattle.core_program.specs.Views.{method_of}
+use Rattle.core_program.specs.declared.program.CoreMethod.{CoreMethod}
 use Rattle.syntax.specs.Trees.{ProgramTree}
-use Rattle.classes.specs.Table.{TableData, table_of}
+use Rattle.classes.specs.Table.{TableData, MethodData, table_of}
 use Rattle.typing.specs.declared.fault.TypeFault.{TypeFault}
 use Rattle.typing.specs.declared.fault.TypeFault.TheVariants.{NoMemory as OutOfMemory}
 use Rattle.typing.specs.Noted.{type_noted}
 use Rattle.typing.specs.Programs.{IsFirstTypeFault, IsCoreOf, program_type_faults, type_faults_from, program_node, all_there, all_core_fields, all_core_methods}
 use Rattle.typing.specs.Rulings.{both}
+use Rattle.typing.proofs.Agreement.{methods_owned}
+use Rattle.typing.proofs.Built.{built}
 use Rattle.typing.proofs.Complete.{one_core, program_there}
 use Rattle.typing.proofs.FirstFaults.{first_is, none_is, no_first, one_first}
 
@@ -88,3 +95,30 @@ all_are_there tree classes t fields methods whole table h =
           ∙ ap (λ m. option_map (program_node (table_of tree)) (both (all_there (all_core_fields (table_of tree) 0 tree)) m)) h.methods_are
           ∙ there.1,
     )
+
+-- the classes of all methods are those that the table tells
+pub all_owned : (tree classes : ProgramTree) (t : TableData) (fields : Option (List Field)) (methods : Option (List Method))
+    → classes ≡ tree → t ≡ table_of tree → Found tree None fields methods
+    → IfSome methods (λ ms. map (λ (m : Method). m.class) ms ≡ map (λ (m : MethodData). m.class) t.methods)
+all_owned tree classes t fields methods whole table h =
+    let (P, node) = all_are_there tree classes t fields methods whole table h in
+    let core = made tree classes t fields methods P whole table h (sym node) in
+    let owned = methods_owned tree P (built tree P core.core) in
+    by_methods P owned fields methods node
+  where
+    by_methods : (P : Program) → map (λ (m : Method). m.class) P.methods ≡ map (λ (m : MethodData). m.class) (table_of tree).methods
+        → (fs : Option (List Field)) (ms : Option (List Method)) → option_map (program_node t) (both fs ms) ≡ Some P
+        → IfSome ms (λ ms. map (λ (m : Method). m.class) ms ≡ map (λ (m : MethodData). m.class) t.methods)
+    by_methods P owned fs None node = tt
+    by_methods P owned None (Some ms) node = absurd (none-some P node)
+    by_methods P owned (Some fs) (Some ms) node =
+        ap (λ (Q : Program). map (λ (m : Method). m.class) Q.methods) (same_Some (program_node t (fs, ms)) P node)
+        ∙ owned ∙ ap (λ (z : TableData). map (λ (m : MethodData). m.class) z.methods) (sym table)
+
+-- the classes of the methods in memory, where those of the methods as plain data are these
+pub owned_there : (owners : List ℕ) (items : Option (List CoreMethod)) (all : Option (Vec CoreMethod Global)) (methods : Vec CoreMethod Global) → option_map (λ v. v.items) all ≡ items → all ≡ Some methods
+    → IfSome (option_map (map method_of) items) (λ ms. map (λ (m : Method). m.class) ms ≡ owners) → map (λ (m : CoreMethod). m.class) methods.items ≡ owners
+owned_there owners items all methods are is owned =
+    let there = sym are ∙ ap (option_map (λ (v : Vec CoreMethod Global). v.items)) is in
+    sym (map-map (λ (m : Method). m.class) method_of methods.items)
+    ∙ subst (λ o. IfSome (option_map (map method_of) o) (λ ms. map (λ (m : Method). m.class) ms ≡ owners)) there owned

@@ -5,16 +5,17 @@ use Rattle.std.specs.List.{range_with_len}
 use Rattle.std.specs.Option.{option_or}
 use Rattle.std.proofs.lemmas.List.{append_assoc, length-map}
 use Rattle.std.proofs.lemmas.Option.{same_Some, slice_get-map}
-use Rattle.core_program.specs.Core.{Class}
+use Rattle.core_program.specs.Pairs.{KeptClass}
 use Rattle.classes.specs.Table.{TableData, ClassData, above_in_table, own_method, method_number}
 use Rattle.classes.proofs.Parts.{mapped_at}
 use Rattle.typing.specs.declared.lineage.Lineage.{Lineage}
-use Rattle.typing.specs.Classes.{own_field_numbers, inherited_count, class_core, class_of_number, all_classes}
+use Rattle.typing.specs.Classes.{own_field_numbers, inherited_count}
+use Rattle.typing.specs.Kept.{class_part, part_of_number, all_parts}
 use Rattle.typing.specs.Lineages.{lineage_of}
 use Rattle.typing.specs.Merged.{class_over}
 use Rattle.typing.specs.Order.{IsLined}
 use Rattle.typing.proofs.Filling.{same_lists}
-use Rattle.typing.proofs.Lined.{count_on, count_top, named_on, named_top, class_on, class_top, class_there, all_many}
+use Rattle.typing.proofs.Lined.{count_on, count_top, named_on, named_top, class_on, class_top, part_there, parts_many}
 
 module _ (t : TableData) (lined : IsLined t) where
   pub lineage_top : (k : ℕ) (l : Lineage) → above_in_table t k ≡ None → l.inherited ≡ 0 → l.run ≡ own_method t (codes "run") k → l ≡ lineage_of t k
@@ -32,21 +33,21 @@ module _ (t : TableData) (lined : IsLined t) where
       run ∙ ap (λ (z : Lineage). option_or (own_method t (codes "run") k) z.run) known ∙ sym (named_on t lined (codes "run") k d above) in
       λ i. record { inherited = one i; run = two i }
 
-  -- a class over the one above it is the core class of its number
-  pub class_made_on : (k d : ℕ) (c : ClassData) (made above : Class) (run : Option ℕ) → slice_get t.classes k ≡ Some c → k < length t.classes → above_in_table t k ≡ Some d
-      → Some above ≡ class_of_number t d → run ≡ method_number t k (codes "run") → made ≡ class_over t c run above.fields above.targets → Some made ≡ class_of_number t k
-  class_made_on k d c made above run at low is known run_is made_is = by_class (slice_get t.classes d) refl known
+  -- what is kept of a class over the one above it is that of its number
+  pub class_made_on : (k d : ℕ) (c : ClassData) (made above : KeptClass) (run : Option ℕ) → slice_get t.classes k ≡ Some c → above_in_table t k ≡ Some d
+      → Some above ≡ part_of_number t d → run ≡ method_number t k (codes "run") → made ≡ class_over t c run above.fields → Some made ≡ part_of_number t k
+  class_made_on k d c made above run at is known run_is made_is = by_class (slice_get t.classes d) refl known
     where
-      by_class : (o : Option ClassData) → slice_get t.classes d ≡ o → Some above ≡ option_map (class_core t d) o → Some made ≡ class_of_number t k
+      by_class : (o : Option ClassData) → slice_get t.classes d ≡ o → Some above ≡ option_map (class_part t d) o → Some made ≡ part_of_number t k
       by_class None none h = absurd (let e : None ≡ Some above = sym h in cc)
       by_class (Some e) there h =
-          let same : above ≡ class_core t d e = same_Some above (class_core t d e) h in
-          ap Some (made_is ∙ ap₂ (λ r (x : Class). class_over t c r x.fields x.targets) run_is same ∙ class_on t lined k d c at low is) ∙ ap (option_map (class_core t k)) (sym at)
+          let same : above ≡ class_part t d e = same_Some above (class_part t d e) h in
+          ap Some (made_is ∙ ap₂ (λ r (x : KeptClass). class_over t c r x.fields) run_is same ∙ class_on t lined k d c at is) ∙ ap (option_map (class_part t k)) (sym at)
 
-  pub class_made_top : (k : ℕ) (c : ClassData) (made : Class) (run : Option ℕ) → slice_get t.classes k ≡ Some c → k < length t.classes → above_in_table t k ≡ None
-      → run ≡ method_number t k (codes "run") → made ≡ class_over t c run [] [] → Some made ≡ class_of_number t k
-  class_made_top k c made run at low none run_is made_is =
-      ap Some (made_is ∙ ap (λ r. class_over t c r [] []) run_is ∙ class_top t lined k c at low none) ∙ ap (option_map (class_core t k)) (sym at)
+  pub class_made_top : (k : ℕ) (c : ClassData) (made : KeptClass) (run : Option ℕ) → slice_get t.classes k ≡ Some c → above_in_table t k ≡ None
+      → run ≡ method_number t k (codes "run") → made ≡ class_over t c run [] → Some made ≡ part_of_number t k
+  class_made_top k c made run at none run_is made_is =
+      ap Some (made_is ∙ ap (λ r. class_over t c r []) run_is ∙ class_top t lined k c at none) ∙ ap (option_map (class_part t k)) (sym at)
 
 -- an entry at its number, as plain data
 pub entry_at : {A : Type 0} (seen : A → ClassData) (t : TableData) (entries : List A) (k : ℕ) (entry : A) → map seen entries ≡ t.classes → slice_get entries k ≡ Some entry → slice_get t.classes k ≡ Some (seen entry)
@@ -55,12 +56,12 @@ entry_at seen t entries k entry are at = ap (λ z. slice_get z k) (sym are) ∙ 
 pub entry_above : (t : TableData) (k : ℕ) (c : ClassData) → slice_get t.classes k ≡ Some c → above_in_table t k ≡ c.above
 entry_above t k c at = ap (option_and_then (λ x. x.above)) at
 
--- all core classes, where each stands at its number
-pub all_made : {X : Type 0} (view : X → Class) (t : TableData) (made : List X) → length made ≡ length t.classes
-    → ((c : ℕ) → c < length t.classes → option_map view (slice_get made c) ≡ class_of_number t c) → map view made ≡ all_classes t 0 t.classes
+-- what is kept of all classes, where that of each stands at its number
+pub all_made : {X : Type 0} (view : X → KeptClass) (t : TableData) (made : List X) → length made ≡ length t.classes
+    → ((c : ℕ) → c < length t.classes → option_map view (slice_get made c) ≡ part_of_number t c) → map view made ≡ all_parts t 0 t.classes
 all_made view t made long h =
-    same_lists (map view made) (all_classes t 0 t.classes) (length-map made view ∙ long ∙ sym (all_many t))
-    (λ i low. slice_get-map view made i ∙ h i (let many = all_many t in omega (arith, low, many)) ∙ sym (class_there t i))
+    same_lists (map view made) (all_parts t 0 t.classes) (length-map made view ∙ long ∙ sym (parts_many t))
+    (λ i low. slice_get-map view made i ∙ h i (let many = parts_many t in omega (arith, low, many)) ∙ sym (part_there t i))
 
 -- ---- numbers that are added one after the other
 
@@ -72,14 +73,4 @@ own_step items more whole next after count done so within is counted =
     ap₂ (λ xs n. xs ++ range_with_len n (count - (done + 1))) is counted
     ∙ append_assoc items (next ∷ []) (range_with_len (next + 1) (count - (done + 1)))
     ∙ ap (λ n. items ++ range_with_len next n) (sym left)
-    ∙ so
-
--- the value at one number of a range was added
-pub range_step : {A : Type 0} (f : ℕ → A) (items more whole : List A) (next after count done : ℕ) → items ++ map f (range_with_len next (count - done)) ≡ whole → done < count
-    → more ≡ items ++ f next ∷ [] → after ≡ next + 1 → more ++ map f (range_with_len after (count - (done + 1))) ≡ whole
-range_step f items more whole next after count done so within is counted =
-    let left : count - done ≡ suc (count - (done + 1)) = omega (arith, within) in
-    ap₂ (λ xs n. xs ++ map f (range_with_len n (count - (done + 1)))) is counted
-    ∙ append_assoc items (f next ∷ []) (map f (range_with_len (next + 1) (count - (done + 1))))
-    ∙ ap (λ n. items ++ map f (range_with_len next n)) (sym left)
     ∙ so

@@ -19,10 +19,11 @@ pub mod PathsInOrder
 pub mod Places
 pub mod Built
 pub mod Ancestry
-pub mod Merging
 pub mod Lined
 pub mod Pairs
 pub mod Paired
+mod Numbered
+mod NameSets
 pub mod TreeLines
 pub mod Agreement
 pub mod NamedFields

@@ -1,16 +1,16 @@
 -- What a class of a table has, from what the class above it has.
-use Rattle.std.proofs.Common.{◌≡◌, ◌<◌, ◌+◌, ℕ, zero, suc, List, [], ◌∷◌, ◌++◌, length, filter, flat_map, reverse, Option, Some, None, refl, sym, ap, ap₂, ◌∙◌, arith, slice_get, option_map, if◌then◌else◌, append-nil, length-append}
+use Rattle.std.proofs.Common.{◌≡◌, ◌+◌, ℕ, zero, suc, List, [], ◌∷◌, ◌++◌, length, filter, flat_map, reverse, Option, Some, None, refl, sym, ap, ◌∙◌, arith, slice_get, option_map, option_and_then, if◌then◌else◌, append-nil, length-append}
 use Rattle.std.specs.Prelude.{codes}
 use Rattle.std.specs.Option.{option_or}
 use Rattle.std.proofs.lemmas.List.{reverse-append}
 use Rattle.std.proofs.lemmas.Grind.{flat_map-append}
-use Rattle.core_program.specs.Core.{Class}
-use Rattle.classes.specs.Table.{TableData, ClassData, above_in_table, own_method, method_number}
-use Rattle.typing.specs.Classes.{own_field_numbers, is_final_in, fields_of_each, field_numbers, ancestors_in, inherited_count, targets_from, class_core, class_of_number, all_classes}
-use Rattle.typing.specs.Merged.{fields_over, merged, class_over}
+use Rattle.core_program.specs.Pairs.{KeptClass}
+use Rattle.classes.specs.Table.{TableData, ClassData, above_in_table, number_of_own_method, own_method, method_number}
+use Rattle.typing.specs.Classes.{own_field_numbers, is_final_in, fields_of_each, field_numbers, ancestors_in, inherited_count, class_core, class_of_number, all_classes}
+use Rattle.typing.specs.Kept.{class_part, part_of_number, all_parts}
+use Rattle.typing.specs.Merged.{class_over}
 use Rattle.typing.specs.Order.{IsLined}
 use Rattle.typing.proofs.Ancestry.{ancestors_on, line_top, found_on, found_top}
-use Rattle.typing.proofs.Merging.{pairs_on, pairs_top}
 
 module _ (t : TableData) where
   -- ---- the core classes by their numbers
@@ -29,6 +29,23 @@ module _ (t : TableData) where
 
   pub all_many : length (all_classes t 0 t.classes) ≡ length t.classes
   all_many = classes_many 0 t.classes
+
+  -- ---- what is kept of them
+
+  part_from : (k : ℕ) (cs : List ClassData) (i j : ℕ) → j ≡ k + i → slice_get (all_parts t k cs) i ≡ option_map (class_part t j) (slice_get cs i)
+  part_from k [] i j number = refl
+  part_from k (c ∷ cs) zero j number = let same : k ≡ j = omega (arith, number) in ap (λ n. Some (class_part t n c)) same
+  part_from k (c ∷ cs) (suc i) j number = part_from (k + 1) cs i j (omega (arith, number))
+
+  pub part_there : (k : ℕ) → slice_get (all_parts t 0 t.classes) k ≡ part_of_number t k
+  part_there k = part_from 0 t.classes k k (omega arith)
+
+  count_from : (k : ℕ) (cs : List ClassData) → length (all_parts t k cs) ≡ length cs
+  count_from k [] = refl
+  count_from k (c ∷ cs) = ap suc (count_from (k + 1) cs)
+
+  pub parts_many : length (all_parts t 0 t.classes) ≡ length t.classes
+  parts_many = count_from 0 t.classes
 
   -- ---- fields
 
@@ -77,31 +94,35 @@ module _ (t : TableData) where
     pub named_top : (name : List ℕ) (k : ℕ) → above_in_table t k ≡ None → method_number t k name ≡ own_method t name k
     named_top name k none = found_top up_in (length t.classes) lined.below lined.apart (own_method t name) k none
 
-    -- ---- the whole class
+    -- the first method of a name in the class is found first
+    pub found_first : (k : ℕ) (c : ClassData) → slice_get t.classes k ≡ Some c → (name : List ℕ) (n : ℕ) → number_of_own_method name c ≡ Some n → method_number t k name ≡ Some n
+    found_first k c at name n is = by_above (above_in_table t k) refl
+      where
+        own_there : own_method t name k ≡ Some n
+        own_there = ap (option_and_then (number_of_own_method name)) at ∙ is
+
+        by_above : (o : Option ℕ) → above_in_table t k ≡ o → method_number t k name ≡ Some n
+        by_above None none = named_top name k none ∙ own_there
+        by_above (Some d) is = named_on name k d is ∙ ap (λ o. option_or o (method_number t d name)) own_there
+
+    -- ---- what is kept of a class
 
     -- a class of these parts
-    abbrev class_of_parts : ClassData → Option ℕ → List ℕ → List (ℕ × ℕ) → Class
-    class_of_parts c run fields pairs = record {
+    abbrev part_with : ClassData → Option ℕ → List ℕ → KeptClass
+    part_with c run fields = record {
       fields = fields;
       finals = filter (λ f. is_final_in (slice_get t.fields f)) fields;
       run = if c.runnable then run else None;
       above = c.above;
-      targets = pairs;
+      first_method = c.first_method;
+      method_count = length c.method_names;
     }
 
-    same_class : (c : ClassData) (run : Option ℕ) (fields over : List ℕ) (pairs targets : List (ℕ × ℕ)) → over ≡ fields → pairs ≡ targets → class_of_parts c run over pairs ≡ class_of_parts c run fields targets
-    same_class c run fields over pairs targets one two = ap₂ (class_of_parts c run) one two
+    pub class_on : (k d : ℕ) (c : ClassData) → slice_get t.classes k ≡ Some c → above_in_table t k ≡ Some d
+        → class_over t c (method_number t k (codes "run")) (field_numbers t d) ≡ class_part t k c
+    class_on k d c at above =
+        ap (part_with c (method_number t k (codes "run"))) (sym (fields_on k d above ∙ ap (λ o. field_numbers t d ++ own_field_numbers o) at))
 
-    pub class_on : (k d : ℕ) (c : ClassData) → slice_get t.classes k ≡ Some c → k < length t.classes → above_in_table t k ≡ Some d
-        → class_over t c (method_number t k (codes "run")) (field_numbers t d) (targets_from t d 0 t.methods) ≡ class_core t k c
-    class_on k d c at low above =
-        same_class c (method_number t k (codes "run")) (field_numbers t k) (fields_over c (field_numbers t d)) (merged t c (targets_from t d 0 t.methods)) (targets_from t k 0 t.methods)
-        (sym (fields_on k d above ∙ ap (λ o. field_numbers t d ++ own_field_numbers o) at))
-        (sym (pairs_on t lined k c at low d above))
-
-    pub class_top : (k : ℕ) (c : ClassData) → slice_get t.classes k ≡ Some c → k < length t.classes → above_in_table t k ≡ None
-        → class_over t c (method_number t k (codes "run")) [] [] ≡ class_core t k c
-    class_top k c at low none =
-        same_class c (method_number t k (codes "run")) (field_numbers t k) (fields_over c []) (merged t c []) (targets_from t k 0 t.methods)
-        (sym (fields_top k none ∙ ap own_field_numbers at))
-        (sym (pairs_top t lined k c at low none))
+    pub class_top : (k : ℕ) (c : ClassData) → slice_get t.classes k ≡ Some c → above_in_table t k ≡ None
+        → class_over t c (method_number t k (codes "run")) [] ≡ class_part t k c
+    class_top k c at none = ap (part_with c (method_number t k (codes "run"))) (sym (fields_top k none ∙ ap own_field_numbers at))

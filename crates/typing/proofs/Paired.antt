@@ -18,11 +18,10 @@ use Rattle.classes.proofs.Parts.{mapped_at, before_mapped}
 use Rattle.typing.specs.Classes.{runner, targets_from, class_core, class_of_number, all_classes}
 use Rattle.typing.specs.Order.{IsLined}
 use Rattle.typing.proofs.Ancestry.{kind_itself, kind_up, kind_on, kind_top, found_there}
-use Rattle.typing.proofs.Lined.{class_there, named_on}
-use Rattle.typing.proofs.Merging.{found_first}
+use Rattle.typing.proofs.Lined.{class_there, found_first, named_on}
 use Rattle.typing.proofs.Pairs.{paired, stands, ascending_pairs, pairs_within}
 
-each_of : {A : Type 0} (P : A → Type 0) (xs : List A) (i : ℕ) (x : A) → AllByRecursion P xs → slice_get xs i ≡ Some x → P x
+pub each_of : {A : Type 0} (P : A → Type 0) (xs : List A) (i : ℕ) (x : A) → AllByRecursion P xs → slice_get xs i ≡ Some x → P x
 each_of P [] i x h at = absurd (none-some x at)
 each_of P (y ∷ ys) zero x h at = subst P (same_Some y x at) h.0
 each_of P (y ∷ ys) (suc i) x h at = each_of P ys i x h.1 at
@@ -110,7 +109,7 @@ module _ (t : TableData) (lined : IsLined t) where
       let c = get_below t.classes k low in
       let itself : own_method t m.name k ≡ Some n = ap (own_method t m.name) (sym mine) ∙ named_itself n m at in
       let here : number_of_own_method m.name c.0 ≡ Some n = sym (ap (option_and_then (number_of_own_method m.name)) c.1) ∙ itself in
-      ap (λ o. unwrap_or o n) (found_first t lined k c.0 c.1 low m.name n here)
+      ap (λ o. unwrap_or o n) (found_first t lined k c.0 c.1 m.name n here)
 
   -- ---- the core program
 

@@ -15,8 +15,8 @@ pub mod Fitting
 pub mod Views
 pub mod Names
 -- For a reader of the contract, in this order: what a core class is made of (Classes), programs, whose rules go on from those of
--- `typing` (Programs), and programs in which no class extends another (Alone). The others serve the code: Order, Lineages and
--- Merged that of classes, Inside, Gathered, Making and BodyViews that of members.
+-- `typing` (Programs), and programs in which no class extends another (Alone). The others serve the code: Order, Lineages, Kept
+-- and Merged that of classes, Inside, Gathered, Making and BodyViews that of members.
 pub mod Inside
 pub mod Classes
 pub mod Programs
@@ -25,6 +25,7 @@ pub mod Gathered
 pub mod Entries
 pub mod Making
 pub mod Order
+pub mod Kept
 pub mod Merged
 pub mod Lineages
 pub mod BodyViews

@@ -4,8 +4,9 @@ ghost use Rattle.std.specs.Prelude.{◌≡◌, ◌++◌, ◌<◌, ℕ, Some, cod
 ghost use Rattle.std.specs.List.{range_with_len};
 ghost use Rattle.classes.specs.Table.{above_in_table, method_number};
 ghost use Rattle.classes.specs.Views.{class_data, table_data};
-ghost use Rattle.core_program.specs.Views as core;
-ghost use Rattle.typing.specs.Classes.{all_classes, class_of_number, is_final_in};
+ghost use Rattle.core_program.specs.Kept.{kept_class};
+ghost use Rattle.typing.specs.Classes.{is_final_in};
+ghost use Rattle.typing.specs.Kept.{all_parts, part_of_number};
 ghost use Rattle.typing.specs.Lineages.{lineage_of};
 ghost use Rattle.typing.specs.Merged.{class_over};
 ghost use Rattle.typing.specs.Order.{IsFromAbove, IsLined};
@@ -13,7 +14,6 @@ ghost use Rattle.typing.specs.Order.{IsFromAbove, IsLined};
 use crate::columns::{put, value_of};
 use crate::lineage::Lineage;
 use crate::members::next_number;
-use crate::targets::class_targets;
 use classes::{ClassEntry, ClassTable};
 use core_program::CoreClass;
 use paths::{ClassId, FieldId, MethodId};
@@ -56,28 +56,27 @@ fn finals_of(
     Ok(finals)
 }
 
-/// A core class, where these are the fields and the targets of the class that it extends; there are none where it extends none.
+/// A core class, where these are the fields of the class that it extends; there are none where it extends none.
 fn core_class(
     alloc: Global,
     table: &ClassTable,
     class: &ClassEntry,
     run: Option<MethodId>,
     fields: &[FieldId],
-    pairs: &[(MethodId, MethodId)],
 ) -> Result<CoreClass, NoMemory>
-    ensures { IfOk result (λ c. core.core_class_of c ≡ class_over (table_data table.now) (class_data class.now) run fields.now pairs.now) }
+    ensures { IfOk result (λ c. kept_class c ≡ class_over (table_data table.now) (class_data class.now) run fields.now) }
 {
     let mut all = Vec::new(alloc);
     all.extend_from_slice(fields)?;
     add_own(class, &mut all)?;
     let finals = finals_of(alloc, table, all.as_slice())?;
-    let targets = class_targets(alloc, table, class, pairs)?;
     Ok(CoreClass {
         fields: all,
         finals,
         run: if class.runnable { run } else { None },
         above: class.above,
-        targets,
+        first_method: class.first_method(),
+        method_count: class.method_count(),
     })
 }
 
@@ -92,22 +91,15 @@ fn class_at(
     requires lined { IsLined (table_data table.now) }
     requires within { id < length (table_data table.now).classes }
     requires run { run ≡ method_number (table_data table.now) id (codes "run") }
-    requires above { (d : ℕ) → above_in_table (table_data table.now) id ≡ Some d → option_map core.core_class_of (slice_get known.now d) ≡ class_of_number (table_data table.now) d }
-    ensures { IfOk result (λ c. Some (core.core_class_of c) ≡ class_of_number (table_data table.now) id) }
+    requires above { (d : ℕ) → above_in_table (table_data table.now) id ≡ Some d → option_map kept_class (slice_get known.now d) ≡ part_of_number (table_data table.now) d }
+    ensures { IfOk result (λ c. Some (kept_class c) ≡ part_of_number (table_data table.now) id) }
 {
     let class = value_of(table.classes(), id);
     let Some(above) = class.above else {
-        return core_class(alloc, table, class, run, &[], &[]);
+        return core_class(alloc, table, class, run, &[]);
     };
     let above = value_of(known, above);
-    core_class(
-        alloc,
-        table,
-        class,
-        run,
-        above.fields.as_slice(),
-        above.targets.as_slice(),
-    )
+    core_class(alloc, table, class, run, above.fields.as_slice())
 }
 
 /// So many classes with nothing in them.
@@ -121,7 +113,8 @@ fn blank(alloc: Global, classes: &[ClassEntry]) -> Result<Vec<CoreClass>, NoMemo
             finals: Vec::new(alloc),
             run: None,
             above: None,
-            targets: Vec::new(alloc),
+            first_method: MethodId(0),
+            method_count: 0,
         })?;
     }
     Ok(all)
@@ -137,7 +130,7 @@ pub(crate) fn core_classes(
     requires lined { IsLined (table_data table.now) }
     requires order { IsFromAbove (above_in_table (table_data table.now)) (length (table_data table.now).classes) order.now }
     requires lineages { (c : ℕ) → c < length (table_data table.now).classes → slice_get lineages.now c ≡ Some (lineage_of (table_data table.now) c) }
-    ensures { IfOk result (λ all. map core.core_class_of all.items ≡ all_classes (table_data table.now) 0 (table_data table.now).classes) }
+    ensures { IfOk result (λ all. map kept_class all.items ≡ all_parts (table_data table.now) 0 (table_data table.now).classes) }
 {
     let mut all = blank(alloc, table.classes())?;
     for id in order {

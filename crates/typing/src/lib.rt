@@ -19,6 +19,7 @@ mod make;
 mod members;
 mod methods;
 mod nodes;
+mod numbers;
 mod order;
 mod rule_laws;
 mod rules;
@@ -26,7 +27,6 @@ mod scope;
 mod simple_stmts;
 mod stmt_rules;
 mod stmts;
-mod targets;
 mod types;
 
 pub use calls::{call_rule, new_rule};

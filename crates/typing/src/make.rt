@@ -1,6 +1,6 @@
 //! The core program of a program, or its first type fault.
 
-ghost use Rattle.std.specs.Prelude.{◌≡◌, ◌≤◌, ◌<◌, ◌⊎◌, ℕ, List, [], Some, length, map, option_map, slice_get, IfOk, MatchResult};
+ghost use Rattle.std.specs.Prelude.{◌≡◌, ◌≤◌, ◌<◌, ◌⊎◌, ℕ, List, [], Some, length, map, option_map, slice_get, IfOk, IfSome, MatchResult};
 ghost use Rattle.classes.specs.Faults as classes;
 ghost use Rattle.classes.specs.Table.{above_in_table, table_of};
 ghost use Rattle.classes.specs.Views.{table_data};
@@ -24,6 +24,7 @@ use crate::fault::TypeFault;
 use crate::first::FirstFault;
 use crate::lineage::{Lineage, lineages};
 use crate::members::{Members, parts_of};
+use crate::numbers::name_numbers;
 use crate::order::from_above;
 use classes::ClassTable;
 use core_program::{CoreField, CoreMethod, CoreProgram};
@@ -55,8 +56,10 @@ fn core_program(
     requires lined { IsLined (table_data table.now) }
     requires order { IsFromAbove (above_in_table (table_data table.now)) (length (table_data table.now).classes) order.now }
     requires lineages { (c : ℕ) → c < length (table_data table.now).classes → slice_get lineages.now c ≡ Some (lineage_of (table_data table.now) c) }
+    requires owned { map (λ m. m.class) methods.items ≡ map (λ m. m.class) (table_data table.now).methods }
     ensures { IfOk result (λ p. core.program_of p ≡ program_node (table_data table.now) (map core.field_of fields.items, map core.method_of methods.items)) }
 {
+    let names = name_numbers(alloc, table)?;
     let classes = core_classes(alloc, table, order, lineages)?;
     let main_class = main_class(table);
     let main = main_method(table, main_class);
@@ -64,6 +67,7 @@ fn core_program(
         classes,
         fields,
         methods,
+        names,
         main_class,
         main,
     })
@@ -80,6 +84,7 @@ fn assembled(
     requires lined { IsLined (table_data table.now) }
     requires order { IsFromAbove (above_in_table (table_data table.now)) (length (table_data table.now).classes) order.now }
     requires lineages { (c : ℕ) → c < length (table_data table.now).classes → slice_get lineages.now c ≡ Some (lineage_of (table_data table.now) c) }
+    requires owned { IfSome (methods_data parts) (λ ms. map (λ m. m.class) ms ≡ map (λ m. m.class) (table_data table.now).methods) }
     requires whole { (P : CoreData) × (option_map (program_node (table_data table.now)) (both (fields_data parts) (methods_data parts)) ≡ Some P) }
     ensures { IfOk result (λ p. Some (core.program_of p) ≡ option_map (program_node (table_data table.now)) (both (fields_data parts) (methods_data parts))) }
 {

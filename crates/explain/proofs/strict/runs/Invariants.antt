@@ -6,4 +6,4 @@ use Rattle.explain.proofs.strict.runs.Given as goal
 
 -- what is said of the classes that are left is said of all
 abbrev pub invariant-loop-class : goal.invariant-loop-class
-invariant-loop-class l = list_any (λ c. is_run l.id c.run) (map core_class_of (drop l.class-index l.classes)) ≡ list_any (λ c. is_run l.id c.run) (map core_class_of l.classes)
+invariant-loop-class l = list_any (λ c. is_run l.id c.run) (map (core_class_of l.program) (drop l.class-index l.class-items)) ≡ list_any (λ c. is_run l.id c.run) (map (core_class_of l.program) l.class-items)

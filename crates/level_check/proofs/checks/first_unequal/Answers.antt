@@ -14,15 +14,15 @@ pub loop-class-preserved : goal.loop-class-preserved
 loop-class-preserved c =
     let P = program_of c.args.program.now in
     let at = c.loop-class.class-index in
-    let there = there_is core_class_of c.classes-class-items.result.now P.classes at c.class-item.result c.classes-class-items.ensures c.loop-class-test.true c.class-item.is in (
+    let there = there_is (core_class_of c.args.program.now) c.classes-class-items.result.now P.classes at c.class-item.result c.classes-class-items.ensures c.loop-class-test.true c.class-item.is in (
       ap (λ n. n + 1) c.loop-class.invariant.0,
       next_differs P c.args.levels.now at c.loop-class.invariant.1
-          (differs_not P c.args.levels.now at (core_class_of c.class-item.result) there
+          (differs_not P c.args.levels.now at (core_class_of c.args.program.now c.class-item.result) there
           (ap (λ k. differs (level_in c.args.levels.now) k c.class-item.result.above) (sym c.loop-class.invariant.0) ∙ sym c.differs.ensures ∙ c.if-differs.false)),
     )
 
 pub returns-clause-none : goal.returns-clause-none
 returns-clause-none c =
     let P = program_of c.args.program.now in
-    let many = sym (ap length c.classes-class-items.ensures) ∙ length-map c.classes-class-items.result.now core_class_of in
+    let many = sym (ap length c.classes-class-items.ensures) ∙ length-map c.classes-class-items.result.now (core_class_of c.args.program.now) in
     none_differs P c.args.levels.now (λ k less. c.loop-class.invariant.1 k (let end = c.loop-class-test.false in omega (arith, less, many, end)))

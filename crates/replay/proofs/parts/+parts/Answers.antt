@@ -10,6 +10,7 @@ use Rattle.core_program.proofs.ViewLemmas.{expr_of-Call, expr_of-New, stmt_of-Bl
 use Rattle.replay.specs.Answers.{Gives}
 use Rattle.replay.specs.Ends.{IsEvaluationEnd, ended}
 use Rattle.replay.specs.Evaluating.{expr_answer, stmt_answer}
+use Rattle.replay.specs.Evaluation.{lower_of}
 use Rattle.replay.proofs.Sizes.{all_nodes, body_in, expr_in, stmt_in, one_turn_less}
 use Rattle.replay.proofs.Steps.{loop_goes, loop_returns, loop_fails, body_fails}
 use Rattle.replay.proofs.parts.+parts.Goals as goal
@@ -23,6 +24,11 @@ pub block-statement-requires : goal.block-statement-requires
 block-statement-requires t c =
     let h = stmt_in c.args.body.now c.loop-s.s-index c.s-item.result c.loop-s-test.true c.s-item.is in
     (omega (arith, h, c.decreases), c.requires)
+
+pub enter-returns-in-None : goal.enter-returns-in-None
+enter-returns-in-None t c =
+    let P = program_of c.args.at.now.program.now in
+    c.in-None.ensures.answer c.args.at.now.thread c.args.at.now.depth (lower_of P c.args.at.now.thread c.args.at.now.turns) c.args.values.now
 
 pub expr-called-requires : goal.expr-called-requires
 expr-called-requires t c =

@@ -1,17 +1,21 @@
--- One class more, and none that is left.
-use Rattle.std.proofs.Common.{length, sym, ap, subst, ◌∙◌, arith}
+-- None yet, one method more, and all.
+use Rattle.std.proofs.Common.{◌≡◌, Some, length, sym, ap, ◌∙◌, arith}
 use Rattle.std.proofs.lemmas.List.{length-map}
-use Rattle.core_program.specs.Views.{program_of, core_class_of}
-use Rattle.rules.specs.Nearest.{AreNearest}
+use Rattle.core_program.specs.Overridden.{next_overridden}
+use Rattle.core_program.specs.Views.{method_of}
 use Rattle.rules.specs.Search.{rows_of}
-use Rattle.rules.proofs.Leading.{rows_more, rows_all}
+use Rattle.rules.proofs.Leading.{rows_nearest}
+use Rattle.rules.proofs.OverridingLemmas.{have_none, have_more}
 use Rattle.rules.proofs.nearest.nearest_overriders.Goals as goal
 
+pub loop-place-init : goal.loop-place-init
+loop-place-init c = have_none (λ over m. next_overridden c.args.program.now over ≡ Some m) c.new-rows.result.items c.new-rows.ensures.items
+
 pub loop-place-preserved : goal.loop-place-preserved
-loop-place-preserved c = rows_more (program_of c.in_ok-lines.lines.program.now) (rows_of c.loop-place.rows.items) (rows_of c.add_class.new.rows.items) c.loop-place.place c.in_ok-class_at.field-0 (length c.classes-count.result.now)
-    c.loop-place-test.true c.in_ok-class_at.ensures c.in_ok-add_class.ensures c.loop-place.invariant
+loop-place-preserved c = have_more (λ over m. next_overridden c.args.program.now over ≡ Some m) (rows_of c.loop-place.rows.items) (rows_of c.add_next.new.rows.items)
+    c.loop-place.place c.in_ok-method_at.field-0 c.in_ok-method_at.ensures c.in_ok-add_next.ensures c.loop-place.invariant
 
 pub returns : goal.returns
-returns c = subst (λ P. AreNearest P (rows_of c.loop-place.rows.items)) c.in_ok-lines.ensures
-    (rows_all (program_of c.in_ok-lines.lines.program.now) (rows_of c.loop-place.rows.items) c.loop-place.place (length c.classes-count.result.now)
-    (omega (arith, c.loop-place-test.false)) (sym (length-map c.classes-count.result.now core_class_of) ∙ ap length c.classes-count.ensures) c.loop-place.invariant)
+returns c =
+    let long = sym (length-map c.methods-count.result.now method_of) ∙ ap length c.methods-count.ensures in
+    rows_nearest c.args.program.now (rows_of c.loop-place.rows.items) c.loop-place.place (omega (arith, c.loop-place-test.false, long)) c.loop-place.invariant

@@ -1,9 +1,9 @@
-use Rattle.std.proofs.Common.{◌≡◌, ◌++◌, ℕ, drop, map}
-use Rattle.core_program.specs.Views.{program_of, core_class_of}
-use Rattle.rules.specs.Overriding.{overriders_from}
-use Rattle.rules.specs.Search.{row_at, rows_of}
+use Rattle.core_program.specs.Dispatch.{Overrides}
+use Rattle.core_program.specs.Views.{program_of}
+use Rattle.rules.specs.Overriding.{HaveFirst}
+use Rattle.rules.specs.Search.{rows_of}
 use Rattle.rules.proofs.overriding.overriders.Given as goal
 
--- the number is the class's place; the rows so far and those of the rest are those of all
+-- the methods so far are in the rows
 abbrev pub invariant-loop-place : goal.invariant-loop-place
-invariant-loop-place l = (l.number ≡ l.place) × ((m : ℕ) → row_at (rows_of l.rows.items) m ++ overriders_from (program_of l.program) l.number (map core_class_of (drop l.place l.classes)) m ≡ overriders_from (program_of l.program) 0 (map core_class_of l.classes) m)
+invariant-loop-place l = HaveFirst (λ over m. Overrides (program_of l.program) over m) (rows_of l.rows.items) l.place

@@ -2,8 +2,8 @@ use Rattle.std.proofs.Common.{length, arith, ap, sym, ◌∙◌, slice_get, opti
 use Rattle.std.proofs.lemmas.Option.{same_Some, slice_get_within}
 use Rattle.classes.specs.Table.{above_in_table}
 use Rattle.classes.specs.Views.{table_data}
-use Rattle.core_program.specs.Views as core
-use Rattle.typing.specs.Classes.{class_of_number}
+use Rattle.core_program.specs.Kept.{kept_class}
+use Rattle.typing.specs.Kept.{part_of_number}
 use Rattle.typing.specs.Lineages.{lineage_of}
 use Rattle.typing.proofs.Climbs.{placed_within}
 use Rattle.typing.proofs.Filling.{one_known, known_above, all_known}
@@ -31,8 +31,8 @@ class_at-requires-clause-run c =
 pub class_at-requires-clause-above : goal.class_at-requires-clause-above
 class_at-requires-clause-above c = λ d is.
     let t = table_data c.args.table.now in
-    ap (λ z. option_map core.core_class_of (slice_get z d)) c.as_slice.ensures.value
-    ∙ known_above core.core_class_of (class_of_number t) (above_in_table t) (length t.classes) c.args.order.now c.loop-id.id-index c.id-item.result d c.loop-id.all.items
+    ap (λ z. option_map kept_class (slice_get z d)) c.as_slice.ensures.value
+    ∙ known_above kept_class (part_of_number t) (above_in_table t) (length t.classes) c.args.order.now c.loop-id.id-index c.id-item.result d c.loop-id.all.items
     c.requires.order c.loop-id-test.true c.id-item.is c.loop-id.invariant is
 
 pub put-requires : goal.put-requires
@@ -46,7 +46,7 @@ put-requires c =
 pub loop-id-preserved : goal.loop-id-preserved
 loop-id-preserved c =
     let t = table_data c.args.table.now in
-    one_known core.core_class_of (class_of_number t) (length t.classes) c.args.order.now c.loop-id.id-index c.id-item.result c.loop-id.all.items c.put.new.values.items c.in_ok-class.class
+    one_known kept_class (part_of_number t) (length t.classes) c.args.order.now c.loop-id.id-index c.id-item.result c.loop-id.all.items c.put.new.values.items c.in_ok-class.class
     c.loop-id-test.true c.id-item.is
     (placed_within (above_in_table t) (length t.classes) c.args.order.now c.loop-id.id-index c.id-item.result c.requires.order c.loop-id-test.true c.id-item.is)
     c.in_ok-class.ensures c.put.ensures c.loop-id.invariant
@@ -54,5 +54,5 @@ loop-id-preserved c =
 pub returns : goal.returns
 returns c =
     let t = table_data c.args.table.now in
-    all_made core.core_class_of t c.loop-id.all.items c.loop-id.invariant.long
-    (all_known core.core_class_of (class_of_number t) (above_in_table t) (length t.classes) c.args.order.now c.loop-id.id-index c.loop-id.all.items c.requires.order c.loop-id-test.false c.loop-id.invariant)
+    all_made kept_class t c.loop-id.all.items c.loop-id.invariant.long
+    (all_known kept_class (part_of_number t) (above_in_table t) (length t.classes) c.args.order.now c.loop-id.id-index c.loop-id.all.items c.requires.order c.loop-id-test.false c.loop-id.invariant)

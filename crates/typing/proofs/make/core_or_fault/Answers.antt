@@ -5,7 +5,7 @@ use Rattle.syntax.specs.Views.{class_of, program_tree}
 use Rattle.typing.specs.Noted.{type_noted}
 use Rattle.typing.specs.Programs.{type_faults_from}
 use Rattle.typing.specs.BodyViews.{fields_data, methods_data}
-use Rattle.typing.proofs.Answering.{found_in, told, made, all_are_there}
+use Rattle.typing.proofs.Answering.{found_in, told, made, all_are_there, all_owned}
 use Rattle.typing.proofs.TableEntries.{entries_as}
 use Rattle.typing.proofs.TreeLines.{lined_as, many_as}
 use Rattle.typing.proofs.make.core_or_fault.Goals as goal
@@ -40,6 +40,18 @@ assembled-requires-clause-whole c =
     let classes = map class_of c.as_slice-classes.result.now in
     let t = table_data c.args.table.now in
     all_are_there tree classes t (fields_data c.in_ok-parts.parts) (methods_data c.in_ok-parts.parts)
+    (ap (map class_of) c.as_slice-classes.ensures.value) c.requires.table
+    (found_in tree classes t None (fields_data c.in_ok-parts.parts) (methods_data c.in_ok-parts.parts)
+    (ap (map class_of) c.as_slice-classes.ensures.value) c.requires.table
+    (sym c.in-None.is ∙ c.first.view_is ∙ c.in_ok-parts.ensures.fault ∙ ap (λ z. type_noted z (type_faults_from t 0 classes)) c.new-first.ensures)
+    c.in_ok-parts.ensures.fields c.in_ok-parts.ensures.methods)
+
+pub assembled-requires-clause-owned : goal.assembled-requires-clause-owned
+assembled-requires-clause-owned c =
+    let tree = program_tree c.args.program.now in
+    let classes = map class_of c.as_slice-classes.result.now in
+    let t = table_data c.args.table.now in
+    all_owned tree classes t (fields_data c.in_ok-parts.parts) (methods_data c.in_ok-parts.parts)
     (ap (map class_of) c.as_slice-classes.ensures.value) c.requires.table
     (found_in tree classes t None (fields_data c.in_ok-parts.parts) (methods_data c.in_ok-parts.parts)
     (ap (map class_of) c.as_slice-classes.ensures.value) c.requires.table

@@ -1,8 +1,0 @@
-use Rattle.std.proofs.Common.{◌≡◌}
-use Rattle.std.specs.Prelude.{drop}
-use Rattle.core_program.specs.Dispatch.{partner}
-use Rattle.rules.proofs.targets.partner.Given as goal
-
--- what is left has the method's partner
-abbrev pub invariant-loop-pair : goal.invariant-loop-pair
-invariant-loop-pair l = partner (drop l.pair-index l.pairs) l.method ≡ partner l.pairs l.method
