@@ -1,15 +1,26 @@
 package atomic.java.attribution;
 
 import atomic.java.skeleton.Place;
+import com.sun.source.tree.ArrayAccessTree;
+import com.sun.source.tree.AssignmentTree;
+import com.sun.source.tree.BinaryTree;
 import com.sun.source.tree.ClassTree;
 import com.sun.source.tree.CompilationUnitTree;
+import com.sun.source.tree.CompoundAssignmentTree;
+import com.sun.source.tree.ConditionalExpressionTree;
 import com.sun.source.tree.ExpressionTree;
+import com.sun.source.tree.InstanceOfTree;
+import com.sun.source.tree.LambdaExpressionTree;
+import com.sun.source.tree.LiteralTree;
 import com.sun.source.tree.MemberReferenceTree;
 import com.sun.source.tree.MemberSelectTree;
 import com.sun.source.tree.MethodInvocationTree;
 import com.sun.source.tree.MethodTree;
+import com.sun.source.tree.NewArrayTree;
 import com.sun.source.tree.NewClassTree;
 import com.sun.source.tree.Tree;
+import com.sun.source.tree.TypeCastTree;
+import com.sun.source.tree.UnaryTree;
 import com.sun.source.tree.VariableTree;
 import com.sun.source.util.JavacTask;
 import com.sun.source.util.SourcePositions;
@@ -20,6 +31,7 @@ import java.util.ArrayList;
 import java.util.IdentityHashMap;
 import java.util.List;
 import java.util.Map;
+import java.util.Set;
 import javax.lang.model.element.Element;
 import javax.lang.model.type.TypeMirror;
 import javax.lang.model.util.Elements;
@@ -27,6 +39,11 @@ import javax.lang.model.util.Types;
 
 /** What javac says of the sources: the meaning and type of each part of their trees, and where it stands. */
 public final class Attribution {
+    /** Trees that mean no element, for which javac would look through all trees around them. */
+    private static final Set<Class<? extends Tree>> NAMELESS = Set.of(BinaryTree.class, UnaryTree.class,
+        LiteralTree.class, AssignmentTree.class, CompoundAssignmentTree.class, ConditionalExpressionTree.class,
+        ArrayAccessTree.class, TypeCastTree.class, InstanceOfTree.class, LambdaExpressionTree.class, NewArrayTree.class);
+
     private final Trees trees;
     private final Types types;
     private final Elements elements;
@@ -84,7 +101,7 @@ public final class Attribution {
             if (tree instanceof ExpressionTree || tree instanceof ClassTree || tree instanceof MethodTree
                     || tree instanceof VariableTree) {
                 TreePath path = new TreePath(getCurrentPath(), tree);
-                meaning = trees.getElement(path);
+                meaning = NAMELESS.contains(tree.getKind().asInterface()) ? null : trees.getElement(path);
                 kind = trees.getTypeMirror(path);
             }
             all.put(tree, new Known(parent, source, meaning, kind));

@@ -8,10 +8,12 @@ public final class SourceText {
     private final String file;
     private final String text;
     private final int[] starts;
+    private final boolean plain;
 
     public SourceText(String file, String text) {
         this.file = file;
         this.text = text;
+        plain = text.chars().allMatch(letter -> letter < 0x80);
         int[] found = new int[16];
         int count = 1;
         for (int k = 0; k < text.length(); k++) {
@@ -38,12 +40,20 @@ public final class SourceText {
     /** The place of a character; columns count bytes. */
     public Place place(long offset) {
         int at = (int) Math.max(0, Math.min(offset, text.length()));
-        int found = Arrays.binarySearch(starts, at);
-        int line = found >= 0 ? found : -found - 2;
+        int line = line(at);
         return new Place(file, line + 1, 1 + bytes(starts[line], at));
     }
 
+    /** The line that a character stands in; the first one is 0. */
+    private int line(int at) {
+        int found = Arrays.binarySearch(starts, at);
+        return found >= 0 ? found : -found - 2;
+    }
+
     private int bytes(int from, int to) {
+        if (plain) {
+            return to - from;
+        }
         int count = 0;
         for (int k = from; k < to; k++) {
             char letter = text.charAt(k);
@@ -116,11 +126,18 @@ public final class SourceText {
     private int before(int offset) {
         int at = offset;
         while (at > 0) {
-            int line = text.lastIndexOf('\n', at - 1) + 1;
-            String front = text.substring(line, at).strip();
-            if (front.isEmpty() || front.startsWith("//")) {
+            int line = starts[line(at)];
+            int begin = line;
+            while (begin < at && Character.isWhitespace(text.charAt(begin))) {
+                begin++;
+            }
+            int end = at;
+            while (end > begin && Character.isWhitespace(text.charAt(end - 1))) {
+                end--;
+            }
+            if (begin == end || text.startsWith("//", begin)) {
                 at = Math.max(0, line - 1);
-            } else if (front.endsWith("*/")) {
+            } else if (text.startsWith("*/", end - 2)) {
                 at = Math.max(0, text.lastIndexOf("/*", at - 1));
             } else {
                 return at;

@@ -22,6 +22,7 @@ public final class Names {
 
     private final Map<String, String> shown = new HashMap<>();
     private final Map<String, String> plain = new HashMap<>();
+    private final Map<String, Integer> numbers = new HashMap<>();
 
     public Names() {
         for (String own : List.of("Main", "Library", "Statics", "S", "Object")) {
@@ -47,12 +48,21 @@ public final class Names {
         if (letters.length() == 0 || Character.isDigit(letters.charAt(0))) {
             letters.insert(0, '_');
         }
-        String base = letters.toString();
-        String name = base + "_1";
-        for (int number = 2; TAKEN.contains(name) || shown.containsKey(name) || plain.containsKey(name); number++) {
-            name = base + "_" + number;
+        return take(numbered(letters.toString()), called);
+    }
+
+    /** The first name of a beginning and a number that nothing has. None is given back, so the numbers only rise. */
+    private String numbered(String base) {
+        int number = numbers.getOrDefault(base, 1);
+        while (isTaken(base + "_" + number)) {
+            number++;
         }
-        return take(name, called);
+        numbers.put(base, number + 1);
+        return base + "_" + number;
+    }
+
+    private boolean isTaken(String name) {
+        return TAKEN.contains(name) || shown.containsKey(name) || plain.containsKey(name);
     }
 
     /** What Java calls a name of the skeleton. */
