@@ -31,6 +31,11 @@ public final class Callees {
         return all;
     }
 
+    /** Whether no method overrides this one. */
+    boolean isAlone(Method method) {
+        return !below.containsKey(method);
+    }
+
     private void collect(Method method, List<Method> all) {
         all.add(method);
         below.getOrDefault(method, List.of()).forEach(each -> collect(each, all));

@@ -4,8 +4,12 @@ import atomic.java.places.Notes;
 import atomic.java.program.JavaClass;
 import atomic.java.program.JavaMethod;
 import atomic.java.program.Program;
+import atomic.java.skeleton.Method;
+import atomic.java.skeleton.Place;
 import java.util.ArrayList;
 import java.util.List;
+import java.util.Set;
+import java.util.stream.Collectors;
 import javax.lang.model.element.Element;
 import javax.lang.model.element.ElementKind;
 import javax.lang.model.element.Modifier;
@@ -59,16 +63,10 @@ public final class ClosedWorld {
 
     /** The methods that others might call without the locks that each call here holds. */
     private static String openMethods(JavaClass each) {
-        List<String> names = new ArrayList<>();
-        for (JavaMethod java : each.methods()) {
-            boolean holds = each.shape().methods().stream().anyMatch(method -> java.place().equals(method.place())
-                && method.closed() && !method.required().isEmpty());
-            if (holds && !java.isPrivate() && !java.isConstructor()
-                    && !names.contains(java.symbol().getSimpleName().toString())) {
-                names.add(java.symbol().getSimpleName().toString());
-            }
-        }
-        return listed(names);
+        Set<Place> holding = each.shape().methods().stream().filter(method -> method.closed() && !method.required().isEmpty()
+            && method.place() != null).map(Method::place).collect(Collectors.toSet());
+        return listed(each.methods().stream().filter(java -> holding.contains(java.place()) && !java.isPrivate()
+            && !java.isConstructor()).map(java -> java.symbol().getSimpleName().toString()).distinct().toList());
     }
 
     private static String listed(List<String> names) {

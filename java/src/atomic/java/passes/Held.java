@@ -8,6 +8,7 @@ import atomic.java.skeleton.Value;
 import java.util.Collection;
 import java.util.HashMap;
 import java.util.HashSet;
+import java.util.LinkedHashSet;
 import java.util.List;
 import java.util.Map;
 import java.util.Set;
@@ -27,10 +28,13 @@ public final class Held {
     private final Callees callees;
     private final Map<Method, Set<Path>> entry = new HashMap<>();
     private final Map<Method, Set<Path>> found = new HashMap<>();
+    private final Set<Method> closed = new HashSet<>();
+    private final Set<Method> waiting = new LinkedHashSet<>();
 
     public Held(Collection<Method> methods) {
         this.methods = methods;
         callees = new Callees(methods);
+        methods.stream().filter(this::isClosed).forEach(closed::add);
         settle();
     }
 
@@ -40,27 +44,18 @@ public final class Held {
         return known == null ? method.required() : known;
     }
 
+    /** Each method hands on what it holds at its calls, and again where it turns out to hold less. */
     private void settle() {
         Set<Method> called = new HashSet<>();
         methods.forEach(method -> calls(method.body(), called));
-        methods.stream().filter(method -> !isClosed(method) || !called.contains(method)).forEach(method ->
-            entry.put(method, new HashSet<>(method.required())));
-        boolean changed = true;
-        while (changed) {
-            found.clear();
-            for (Method method : methods) {
-                if (entry.containsKey(method)) {
-                    walk(method.body(), entry.get(method), Set.of(), null);
-                }
-            }
-            changed = false;
-            for (Method method : methods) {
-                if (isClosed(method) && found.containsKey(method)) {
-                    Set<Path> now = new HashSet<>(found.get(method));
-                    now.addAll(method.required());
-                    changed |= !now.equals(entry.put(method, now));
-                }
-            }
+        methods.stream().filter(method -> !closed.contains(method) || !called.contains(method)).forEach(method -> {
+            entry.put(method, new HashSet<>(method.required()));
+            waiting.add(method);
+        });
+        while (!waiting.isEmpty()) {
+            Method method = waiting.iterator().next();
+            waiting.remove(method);
+            walk(method.body(), entry.get(method), Set.of(), null);
         }
     }
 
@@ -73,7 +68,7 @@ public final class Held {
 
     /** Whether all calls of a method are known, and mean this method alone. */
     boolean isClosed(Method method) {
-        return method.closed() && method.overridden().isEmpty() && callees.of(method).size() == 1;
+        return method.closed() && method.overridden().isEmpty() && callees.isAlone(method);
     }
 
     /** Goes through all accesses. */
@@ -87,8 +82,8 @@ public final class Held {
     private void walk(Part part, Set<Path> held, Set<Path> shared, Visitor visitor) {
         if (part instanceof Part.Access access && visitor != null) {
             visitor.access(null, access, held, shared);
-        } else if (part instanceof Part.Call call) {
-            callees.of(call.target()).forEach(callee -> pass(call, callee, held));
+        } else if (part instanceof Part.Call call && visitor == null && closed.contains(call.target())) {
+            pass(call, held);
         } else if (part instanceof Part.Region region && region.lock() != null) {
             boolean reads = region.mode() == Part.Mode.SHARED && !held.contains(region.lock());
             walk(region.body(), with(held, region.lock()), reads ? with(shared, region.lock()) : shared, visitor);
@@ -103,8 +98,9 @@ public final class Held {
         return more;
     }
 
-    /** What a callee finds held, in its own names. */
-    private void pass(Part.Call call, Method callee, Set<Path> held) {
+    /** What a callee finds held, in its own names: no more than each other call brings. */
+    private void pass(Part.Call call, Set<Path> held) {
+        Method callee = call.target();
         Set<Path> inside = new HashSet<>();
         Path.Root self = new Path.Root(Path.Kind.THIS, "this", callee.owner());
         for (Path lock : held) {
@@ -113,11 +109,13 @@ public final class Held {
                 rename(lock, call.arguments().get(k), callee.parameters().get(k), inside);
             }
         }
-        found.merge(callee, inside, (one, other) -> {
-            Set<Path> both = new HashSet<>(one);
-            both.retainAll(other);
-            return both;
-        });
+        Set<Path> now = found.computeIfAbsent(callee, key -> inside);
+        now.retainAll(inside);
+        Set<Path> whole = new HashSet<>(now);
+        whole.addAll(callee.required());
+        if (!whole.equals(entry.put(callee, whole))) {
+            waiting.add(callee);
+        }
     }
 
     private static void rename(Path lock, Value value, Path.Root root, Set<Path> inside) {

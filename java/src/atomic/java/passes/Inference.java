@@ -17,6 +17,7 @@ import java.util.List;
 import java.util.Map;
 import java.util.Set;
 import java.util.stream.Collectors;
+import java.util.stream.IntStream;
 
 /**
  * Guards of fields that say none. A lock that each access of a field holds guards it; one that each write holds guards its
@@ -148,14 +149,14 @@ public final class Inference {
         for (Method method : methods) {
             if (held.isClosed(method)) {
                 List<Path> wanted = new ArrayList<>(held.entry(method));
-                wanted.removeIf(path -> guards.stream().noneMatch(guard -> ends(path.fields(), guard)));
+                wanted.removeIf(path -> !endsWithAny(path.fields(), guards));
                 method.required().addAll(wanted);
             }
         }
     }
 
-    private static boolean ends(List<Field> path, List<Field> guard) {
-        return path.size() >= guard.size() && path.subList(path.size() - guard.size(), path.size()).equals(guard);
+    private static boolean endsWithAny(List<Field> path, Set<List<Field>> guards) {
+        return IntStream.rangeClosed(0, path.size()).anyMatch(k -> guards.contains(path.subList(k, path.size())));
     }
 
     private static void guards(Part part, Set<List<Field>> found) {

@@ -15,7 +15,7 @@ public final class Pruning {
     private final List<Shape> shapes;
     private final Collection<Method> kept;
     private final List<Method> methods = new ArrayList<>();
-    private final Set<Method> stepping = new HashSet<>();
+    private Doers stepping;
 
     /** The methods {@code kept} stay where they have steps, whether they are called or not. */
     public Pruning(List<Shape> shapes, Collection<Method> kept) {
@@ -26,7 +26,7 @@ public final class Pruning {
 
     /** Takes them out. */
     public void run() {
-        findStepping();
+        stepping = new Doers(methods, Pruning::steps);
         methods.forEach(method -> method.body(withoutIdle(method.body())));
         Set<Method> reached = reached();
         shapes.forEach(shape -> shape.methods().removeIf(method -> !reached.contains(method)));
@@ -40,28 +40,15 @@ public final class Pruning {
         shapes.removeIf(shape -> shape.methods().isEmpty() && !mentioned.contains(shape));
     }
 
-    private void findStepping() {
-        Callees callees = new Callees(methods);
-        boolean changed = true;
-        while (changed) {
-            changed = false;
-            for (Method method : methods) {
-                if (!stepping.contains(method) && callees.of(method).stream().anyMatch(each -> steps(each.body()))) {
-                    changed = stepping.add(method);
-                }
-            }
-        }
-    }
-
-    private boolean steps(Part part) {
+    /** Whether a part is a step by itself, whatever it calls. */
+    private static boolean steps(Part part) {
         return part instanceof Part.Access || part instanceof Part.Region || part instanceof Part.Wait
-            || part instanceof Part.Call call && (stepping.contains(call.target()) || !call.target().required().isEmpty())
-            || part.parts().stream().anyMatch(this::steps);
+            || part instanceof Part.Call call && !call.target().required().isEmpty();
     }
 
     private Part withoutIdle(Part part) {
         if (part instanceof Part.Call call) {
-            return steps(call) ? call : Part.NOTHING;
+            return steps(call) || stepping.mayCall(call.target()) ? call : Part.NOTHING;
         }
         return part.map(this::withoutIdle);
     }
@@ -71,7 +58,7 @@ public final class Pruning {
         Set<Method> reached = new HashSet<>();
         List<Method> next = new ArrayList<>();
         Callees callees = new Callees(methods);
-        kept.stream().filter(method -> stepping.contains(method) || !method.required().isEmpty()).forEach(next::add);
+        kept.stream().filter(method -> stepping.mayCall(method) || !method.required().isEmpty()).forEach(next::add);
         while (!next.isEmpty()) {
             Method method = next.remove(next.size() - 1);
             if (reached.add(method)) {

@@ -3,8 +3,6 @@ package atomic.java.passes;
 import atomic.java.skeleton.Method;
 import atomic.java.skeleton.Part;
 import java.util.Collection;
-import java.util.HashSet;
-import java.util.Set;
 
 /**
  * Regions of readers. Readers run beside each other, and only look at what the lock guards, so the lock counts as any other.
@@ -12,27 +10,18 @@ import java.util.Set;
  */
 public final class ReadLocks {
     private final Collection<Method> methods;
-    private final Set<Method> writers = new HashSet<>();
-    private final Callees callees;
+    private Doers writers;
 
     public ReadLocks(Collection<Method> methods) {
         this.methods = methods;
-        callees = new Callees(methods);
     }
 
     /** Takes the names of the locks whose readers write. */
     public void run() {
-        boolean changed = methods.stream().anyMatch(method -> hasReaders(method.body()));
-        if (!changed) {
-            return;
+        if (methods.stream().anyMatch(method -> hasReaders(method.body()))) {
+            writers = new Doers(methods, ReadLocks::isWrite);
+            methods.forEach(method -> method.body(rename(method.body())));
         }
-        while (changed) {
-            changed = false;
-            for (Method method : methods) {
-                changed |= !writers.contains(method) && writes(method.body()) && writers.add(method);
-            }
-        }
-        methods.forEach(method -> method.body(rename(method.body())));
     }
 
     private static boolean hasReaders(Part part) {
@@ -40,13 +29,13 @@ public final class ReadLocks {
             || part.parts().stream().anyMatch(ReadLocks::hasReaders);
     }
 
+    private static boolean isWrite(Part part) {
+        return part instanceof Part.Access access && access.write() && access.field().guard() != null;
+    }
+
     private boolean writes(Part part) {
-        if (part instanceof Part.Access access) {
-            return access.write() && access.field().guard() != null;
-        } else if (part instanceof Part.Call call) {
-            return callees.of(call.target()).stream().anyMatch(writers::contains);
-        }
-        return part.parts().stream().anyMatch(this::writes);
+        return isWrite(part) || part instanceof Part.Call call && writers.mayCall(call.target())
+            || part.parts().stream().anyMatch(this::writes);
     }
 
     private Part rename(Part part) {

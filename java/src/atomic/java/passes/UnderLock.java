@@ -2,27 +2,29 @@ package atomic.java.passes;
 
 import atomic.java.skeleton.Method;
 import atomic.java.skeleton.Part;
+import java.util.ArrayDeque;
 import java.util.Collection;
+import java.util.Deque;
 import java.util.HashSet;
 import java.util.Set;
 
 /** Which methods run while some lock is held, under whatever name: perhaps, or at each call that is known. */
 final class UnderLock {
-    private final Collection<Method> methods;
     private final Callees callees;
     private final Set<Method> ever = new HashSet<>();
     private final Set<Method> always = new HashSet<>();
+    private final Set<Method> heldAt = new HashSet<>();
+    private final Set<Method> freeAt = new HashSet<>();
+    private final Deque<Method> waiting = new ArrayDeque<>();
 
     UnderLock(Collection<Method> methods) {
-        this.methods = methods;
         callees = new Callees(methods);
         methods.forEach(method -> findEver(method.body(), !method.required().isEmpty()));
         methods.stream().filter(each -> each.closed() && ever.contains(each)).forEach(always::add);
-        int before;
-        do {
-            before = always.size();
-            methods.forEach(method -> dropUnlocked(method.body(), isAlways(method)));
-        } while (always.size() < before);
+        methods.stream().filter(each -> !isAlways(each)).forEach(waiting::add);
+        while (!waiting.isEmpty()) {
+            dropUnlocked(waiting.remove().body());
+        }
     }
 
     /** Whether some call of the method comes where a lock is held. */
@@ -36,7 +38,7 @@ final class UnderLock {
     }
 
     private void findEver(Part part, boolean held) {
-        if (held && part instanceof Part.Call call) {
+        if (held && part instanceof Part.Call call && heldAt.add(call.target())) {
             for (Method callee : callees.of(call.target())) {
                 if (ever.add(callee)) {
                     findEver(callee.body(), true);
@@ -46,11 +48,12 @@ final class UnderLock {
         part.parts().forEach(each -> findEver(each, held || part instanceof Part.Region));
     }
 
-    private void dropUnlocked(Part part, boolean held) {
-        if (!held && part instanceof Part.Call call) {
-            always.removeAll(callees.of(call.target()));
+    /** What is called here outside of regions isn't always called under a lock, nor is what that calls. */
+    private void dropUnlocked(Part part) {
+        if (part instanceof Part.Call call && freeAt.add(call.target())) {
+            callees.of(call.target()).stream().filter(always::remove).filter(each -> !isAlways(each)).forEach(waiting::add);
         } else if (!(part instanceof Part.Region)) {
-            part.parts().forEach(each -> dropUnlocked(each, held));
+            part.parts().forEach(this::dropUnlocked);
         }
     }
 }

@@ -29,7 +29,7 @@ public final class Waiting {
     private final Function<Method, Object> origin;
     private final Part.Call compound;
     private boolean strict;
-    private final Set<Method> looking = new HashSet<>();
+    private Doers writing;
     private final Map<Method, Set<Shape>> held = new HashMap<>();
     private final Callees callees;
     private UnaryOperator<Method> copier;
@@ -60,7 +60,7 @@ public final class Waiting {
         if (methods.stream().noneMatch(method -> waits(method.body()))) {
             return;
         }
-        findLooking();
+        writing = new Doers(methods, Waiting::isWrite);
         findHeld();
         if (copier != null) {
             findCopies();
@@ -84,7 +84,7 @@ public final class Waiting {
         if (!copies.isEmpty()) {
             methods.addAll(copies.values());
             methods.forEach(method -> method.body(redirected(method.body(), held.getOrDefault(method, Set.of()), copies)));
-            looking.addAll(copies.values().stream().filter(each -> looks(each.body())).toList());
+            writing = new Doers(methods, Waiting::isWrite);
             held.clear();
             findHeld();
         }
@@ -120,22 +120,14 @@ public final class Waiting {
         return part instanceof Part.Wait || part.parts().stream().anyMatch(Waiting::waits);
     }
 
-    /** The methods that only look: none of their steps writes. A lock that is given back again leaves nothing behind. */
-    private void findLooking() {
-        looking.addAll(methods);
-        boolean changed = true;
-        while (changed) {
-            changed = looking.removeIf(method -> !looks(method.body()));
-        }
+    private static boolean isWrite(Part part) {
+        return part instanceof Part.Access access && access.write();
     }
 
+    /** Whether a part only looks: no step of it writes. A lock that is given back again leaves nothing behind. */
     private boolean looks(Part part) {
-        if (part instanceof Part.Access access) {
-            return !access.write();
-        } else if (part instanceof Part.Call call) {
-            return callees.of(call.target()).stream().allMatch(looking::contains);
-        }
-        return part.parts().stream().allMatch(this::looks);
+        return !isWrite(part) && !(part instanceof Part.Call call && writing.mayCall(call.target()))
+            && part.parts().stream().allMatch(this::looks);
     }
 
     /** The classes of the locks that callers of each method may hold. */
