@@ -186,12 +186,7 @@ final class Confinement {
 
     /** Whether a call of a method runs that one, and not one in its place. */
     private boolean runsItself(JavaMethod method) {
-        return !method.isVirtual() || program.named(method.symbol().getSimpleName()).stream()
-            .allMatch(each -> each == method || !overrides(each, method) && !overrides(method, each));
-    }
-
-    private boolean overrides(JavaMethod one, JavaMethod other) {
-        return attribution.elements().overrides(one.symbol(), other.symbol(), one.owner().symbol());
+        return !method.isVirtual() || program.overriding().of(method).isEmpty() && !program.overriding().overridesAny(method);
     }
 
     /** Whether only code of the same source can call a method. Another one that nobody here calls is for others. */
@@ -226,7 +221,7 @@ final class Confinement {
     /** Whether a member is named without an object, or behind {@code this}. */
     private static boolean isOwn(Tree tree) {
         return tree instanceof IdentifierTree || tree instanceof MemberSelectTree select
-            && (select.getExpression().toString().equals("this") || select.getExpression() instanceof MemberSelectTree outer
+            && (Uses.isName(select.getExpression(), "this") || select.getExpression() instanceof MemberSelectTree outer
                 && outer.getIdentifier().contentEquals("this"));
     }
 

@@ -22,6 +22,7 @@ import com.sun.source.tree.Tree;
 import com.sun.source.tree.VariableTree;
 import java.util.HashMap;
 import java.util.HashSet;
+import java.util.List;
 import java.util.Map;
 import java.util.Set;
 import java.util.function.Predicate;
@@ -40,8 +41,8 @@ public final class Escape {
     /** How many names of an object are followed. */
     private static final int MOST_NAMES = 6;
 
-    /** What makes other threads run a pipeline. */
-    private static final Set<String> PARALLEL = Set.of("parallel", "parallelStream", "parallelSetAll", "parallelPrefix");
+    /** How many uses of second names are looked at for one: behind that the object may be known to others. */
+    private static final int MOST_USES = 5_000;
 
     /** What only makes texts, and keeps nothing that it is given. No class is below these. */
     private static final Set<String> TEXTS = Set.of("java.lang.StringBuilder", "java.lang.StringBuffer",
@@ -55,9 +56,11 @@ public final class Escape {
     private final Uses uses;
     private final Selves selves;
     private final Results results;
+    private final AtOnce atOnce;
     private final Set<Element> visited = new HashSet<>();
     private final Map<Element, Long> throughs = new HashMap<>();
     private Predicate<Tree> isHandedOn = tree -> false;
+    private int looks;
 
     public Escape(Program program, Uses uses) {
         this.program = program;
@@ -65,6 +68,7 @@ public final class Escape {
         attribution = program.attribution();
         selves = new Selves(program, uses, this);
         results = new Results(attribution);
+        atOnce = new AtOnce(program, this);
     }
 
     /** Which functions are given to a method at hand that only calls them. */
@@ -232,9 +236,13 @@ public final class Escape {
         if (symbol.isVarArgs() || at < 0 || at >= symbol.getParameters().size()) {
             return false;
         }
-        return program.named(symbol.getSimpleName()).stream().filter(each -> each.symbol() == symbol
-            || each.isVirtual() && attribution.elements().overrides(each.symbol(), symbol, each.owner().symbol()))
-            .allMatch(each -> each.tree().getBody() != null && through(each.symbol().getParameters().get(at)) == NEVER);
+        JavaMethod method = program.method(symbol);
+        return onlyUses(method, at) && program.overriding().of(method).stream().filter(JavaMethod::isVirtual)
+            .allMatch(each -> onlyUses(each, at));
+    }
+
+    private boolean onlyUses(JavaMethod method, int at) {
+        return method.tree().getBody() != null && through(method.symbol().getParameters().get(at)) == NEVER;
     }
 
     /** What the table says of a library call. */
@@ -295,9 +303,10 @@ public final class Escape {
             return 0;
         }
         boolean first = visited.isEmpty();
+        looks = first ? 0 : looks + uses.of(variable).size();
         visited.add(variable);
-        long found = NEVER;
-        for (Tree use : uses.of(variable)) {
+        long found = looks > MOST_USES ? 0 : NEVER;
+        for (Tree use : looks > MOST_USES ? List.<Tree>of() : uses.of(variable)) {
             found = Math.min(found, earliest(use, uses.declaration(variable)));
         }
         visited.remove(variable);
@@ -328,55 +337,11 @@ public final class Escape {
 
     /** Whether a lambda or a method's name is called by what it is given to, before that returns, and not kept. */
     public boolean isCalledAtOnce(Tree function) {
-        Tree parent = attribution.parent(function);
-        if (parent instanceof MethodInvocationTree call
-                && attribution.element(call) instanceof ExecutableElement symbol && program.method(symbol) == null) {
-            Choice choice = choose(call.getMethodSelect(), symbol);
-            return isTaken(call, call.getArguments().indexOf(function)) && !isParallel(call)
-                && (choice.runsFunctions() || choice.kind() == Choice.Kind.PIPE && endsAtOnce(call));
-        }
-        return false;
+        return atOnce.isCalled(function);
     }
 
-    /** Whether other threads may call the functions of a pipeline, which then hold nothing of what is held here. */
-    private static boolean isParallel(MethodInvocationTree stage) {
-        for (ExpressionTree each = stage; each instanceof MethodInvocationTree call
-                && call.getMethodSelect() instanceof MemberSelectTree select; each = select.getExpression()) {
-            if (PARALLEL.contains(select.getIdentifier().toString())) {
-                return true;
-            }
-        }
-        return false;
-    }
-
-    /**
-     * Whether a callee takes an argument as more than any object, and so may call it. A list's {@code add} and
-     * {@code Thread.holdsLock} don't: what a parameter of any type is given can be kept, and not called.
-     */
+    /** Whether a callee takes an argument as more than any object, and so may call it. */
     public boolean isTaken(Tree call, int at) {
-        if (!(attribution.element(call) instanceof ExecutableElement symbol) || symbol.getParameters().isEmpty()) {
-            return true;
-        }
-        int last = symbol.getParameters().size() - 1;
-        TypeMirror type = symbol.getParameters().get(Math.min(Math.max(at, 0), last)).asType();
-        boolean rest = symbol.isVarArgs() && at >= last && type instanceof ArrayType;
-        TypeMirror wanted = rest ? ((ArrayType) type).getComponentType() : type;
-        return !attribution.types().erasure(wanted).toString().equals("java.lang.Object");
-    }
-
-    /** Whether a pipeline is run in the expression that makes it, or within the one whose {@code flatMap} it is made for. */
-    private boolean endsAtOnce(MethodInvocationTree stage) {
-        Tree select = attribution.parent(stage);
-        if (select instanceof LambdaExpressionTree lambda && attribution.parent(lambda) instanceof MethodInvocationTree around
-                && attribution.element(around).getSimpleName().toString().startsWith("flatMap")) {
-            return isCalledAtOnce(lambda);
-        }
-        if (!(select instanceof MemberSelectTree member)
-                || !(attribution.parent(select) instanceof MethodInvocationTree next)
-                || !(attribution.element(member) instanceof ExecutableElement symbol)) {
-            return false;
-        }
-        Choice choice = choose(member, symbol);
-        return !isParallel(next) && (choice.kind() == Choice.Kind.RUN || choice.kind() == Choice.Kind.PIPE && endsAtOnce(next));
+        return atOnce.isTaken(call, at);
     }
 }

@@ -103,8 +103,7 @@ public final class LocalFunctions {
         boolean fixed = !method.isVirtual() || method.symbol().getModifiers().contains(Modifier.FINAL)
             || method.owner().symbol().getModifiers().contains(Modifier.FINAL) || !program.options().strict();
         return fixed && !method.isConstructor() && method.tree().getBody() != null && !method.owner().isInterface()
-            && program.named(method.symbol().getSimpleName()).stream().noneMatch(each -> each != method && each.isVirtual()
-                && attribution.elements().overrides(each.symbol(), method.symbol(), each.owner().symbol()));
+            && program.overriding().of(method).stream().noneMatch(JavaMethod::isVirtual);
     }
 
     /** Whether code stands in a method: where an object is made, what it is known by changes from one line to the next. */

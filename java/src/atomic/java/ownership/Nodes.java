@@ -27,6 +27,7 @@ import com.sun.source.tree.TypeCastTree;
 import com.sun.source.tree.VariableTree;
 import com.sun.source.tree.YieldTree;
 import com.sun.source.util.TreeScanner;
+import java.util.ArrayList;
 import java.util.HashMap;
 import java.util.LinkedHashSet;
 import java.util.List;
@@ -49,6 +50,7 @@ public final class Nodes {
     private final Attribution attribution;
     private final Ownership ownership;
     private final Map<JavaClass, Boolean> known = new HashMap<>();
+    private final Map<JavaClass, List<JavaClass>> nested = new HashMap<>();
     private final Mentions mentions;
 
     public Nodes(Program program, Ownership ownership) {
@@ -56,6 +58,8 @@ public final class Nodes {
         this.ownership = ownership;
         attribution = program.attribution();
         mentions = new Mentions(program);
+        program.classes().stream().filter(each -> each.outer() != null).forEach(each ->
+            nested.computeIfAbsent(each.outer(), key -> new ArrayList<>()).add(each));
         program.classes().forEach(this::container);
         ownership.escape().selves().nodesAre(this::container);
     }
@@ -73,12 +77,10 @@ public final class Nodes {
     /** Finds the classes of nodes in a container. Each may hold the others, so what one of them lets out counts for all. */
     private void find(JavaClass outer) {
         Set<JavaClass> nodes = new LinkedHashSet<>();
-        for (JavaClass each : program.classes()) {
-            if (each.outer() == outer) {
-                known.put(each, false);
-                if (isPlain(each)) {
-                    nodes.add(each);
-                }
+        for (JavaClass each : nested.get(outer)) {
+            known.put(each, false);
+            if (isPlain(each)) {
+                nodes.add(each);
             }
         }
         while (nodes.removeIf(each -> !isNode(each, nodes))) {

@@ -49,6 +49,7 @@ public final class Ownership {
     private final Map<JavaMethod, String> given = new HashMap<>();
     private final Map<VariableElement, Long> escapes = new HashMap<>();
     private final Map<VariableElement, Boolean> owned = new HashMap<>();
+    private final Map<VariableElement, List<Tree>> exits = new HashMap<>();
     private final Map<Element, VariableElement> confined = new HashMap<>();
     private final Set<VariableElement> shared = new HashSet<>();
     private static final String UNKNOWN = "";
@@ -132,7 +133,7 @@ public final class Ownership {
     public boolean isWrappedByOuter(JavaClass each) {
         return each.hasOuterObject() && isWrapped(each) && sites.makings(each).stream().allMatch(making ->
             attribution.parent(making) instanceof MethodInvocationTree call && call.getArguments().size() == 2
-            && Uses.bare(call.getArguments().get(1)).toString().equals("this") && isDirectlyIn(making, each.outer()));
+            && Uses.isName(Uses.bare(call.getArguments().get(1)), "this") && isDirectlyIn(making, each.outer()));
     }
 
     private boolean isDirectlyIn(Tree tree, JavaClass wanted) {
@@ -231,7 +232,7 @@ public final class Ownership {
         Element symbol = attribution.element(bare);
         boolean local = symbol instanceof VariableElement && symbol.getKind() == ElementKind.LOCAL_VARIABLE;
         boolean handedOn = local && attribution.start(bare) <= escapes((VariableElement) symbol)
-            && uses.of(symbol).stream().filter(use -> escape.from(use) != Escape.NEVER).count() <= 1;
+            && uses.of(symbol).stream().filter(use -> escape.from(use) != Escape.NEVER).skip(1).findAny().isEmpty();
         return handedOn ? made((VariableElement) symbol) : null;
     }
 
@@ -283,8 +284,7 @@ public final class Ownership {
     }
 
     private boolean isOverridden(JavaMethod method) {
-        return method.isVirtual() && program.named(method.symbol().getSimpleName()).stream().anyMatch(other ->
-            other != method && attribution.elements().overrides(other.symbol(), method.symbol(), other.owner().symbol()));
+        return method.isVirtual() && !program.overriding().of(method).isEmpty();
     }
 
     private String findReturned(JavaMethod method) {
@@ -340,6 +340,15 @@ public final class Ownership {
 
     /** Where the objects of a hidden field get out, of those that are made for it; nowhere where they aren't. */
     public List<Tree> exits(VariableElement field) {
+        List<Tree> known = exits.get(field);
+        if (known == null) {
+            known = findExits(field);
+            exits.put(field, known);
+        }
+        return known;
+    }
+
+    private List<Tree> findExits(VariableElement field) {
         boolean hidden = field.getKind() == ElementKind.FIELD && field.getModifiers().contains(Modifier.PRIVATE)
             && made(field) != null;
         return hidden ? uses.of(field).stream().filter(use -> escape.from(use) != Escape.NEVER).toList() : List.of();

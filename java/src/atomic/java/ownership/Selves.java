@@ -52,9 +52,8 @@ public final class Selves {
         if (from(method) != Escape.NEVER) {
             return true;
         }
-        return method.isVirtual() && program.named(method.symbol().getSimpleName()).stream().anyMatch(other ->
-            other != method && attribution.elements().overrides(other.symbol(), method.symbol(), other.owner().symbol())
-            && from(other) != Escape.NEVER);
+        return method.isVirtual()
+            && program.overriding().of(method).stream().anyMatch(other -> from(other) != Escape.NEVER);
     }
 
     /** The offset in the method from which on its object may be known to others. */

@@ -35,6 +35,9 @@ public final class Uses {
     private static final Set<String> HANDLES = Set.of("findVarHandle", "findStaticVarHandle", "findSetter",
         "findStaticSetter", "newUpdater", "getDeclaredField", "getField", "objectFieldOffset", "staticFieldOffset");
 
+    /** Calls of a lock with stamps, which are asked for by the statements around them. */
+    private static final Set<String> STAMPED = Set.of("tryOptimisticRead", "validate");
+
     /** An assignment; {@code value} is null where the new value is computed from the old one. */
     public record Assignment(Tree tree, Tree target, ExpressionTree value) { }
 
@@ -43,6 +46,7 @@ public final class Uses {
     private final Map<Element, List<Assignment>> assigned = new HashMap<>();
     private final List<MethodInvocationTree> clones = new ArrayList<>();
     private final Map<String, Set<Element>> reflected = new HashMap<>();
+    private final Map<String, Set<Tree>> around = new HashMap<>();
     private final Attribution attribution;
 
     /** Looks through all sources. */
@@ -115,6 +119,13 @@ public final class Uses {
             } else if (symbol != null && symbol.getSimpleName().contentEquals("clone")) {
                 clones.add(tree);
             }
+            if (tree.getMethodSelect() instanceof MemberSelectTree select
+                    && STAMPED.contains(select.getIdentifier().toString())) {
+                Set<Tree> all = around.computeIfAbsent(select.getIdentifier().toString(), key -> new HashSet<>());
+                for (Tree each = tree; each != null && all.add(each);) {
+                    each = attribution.parent(each);
+                }
+            }
             return super.visitMethodInvocation(tree, nothing);
         }
 
@@ -167,6 +178,16 @@ public final class Uses {
         return each;
     }
 
+    /** Whether a tree is a mere name, such as {@code this}. */
+    public static boolean isName(Tree tree, String name) {
+        return tree instanceof IdentifierTree identifier && identifier.getName().contentEquals(name);
+    }
+
+    /** Whether a call with such a name, one of a lock with stamps, stands in a tree. */
+    public boolean hasStamped(Tree tree, String name) {
+        return around.getOrDefault(name, Set.of()).contains(tree);
+    }
+
     /** All calls of a {@code clone}. */
     public List<MethodInvocationTree> clones() {
         return clones;
@@ -181,7 +202,7 @@ public final class Uses {
     /** Whether an expression is {@code this}, or an assignment of it. */
     boolean isThis(Tree tree) {
         ExpressionTree bare = tree instanceof ExpressionTree expression ? bare(expression) : null;
-        return bare instanceof IdentifierTree name && name.getName().contentEquals("this")
+        return isName(bare, "this")
             || bare instanceof AssignmentTree assignment && isThis(assignment.getExpression());
     }
 

@@ -94,7 +94,7 @@ public final class Limits {
         if (group.get(0).wide()) {
             one.widen();
         }
-        shape.fields().add(one);
+        shape.add(one);
         return one;
     }
 
@@ -105,15 +105,25 @@ public final class Limits {
     /** The last final fields of a class that still has too many, and then the guards of its other ones. */
     private void forget(Shape shape) {
         List<Field> fixed = shape.fields().stream().filter(field -> field.used() && field.fixed()).toList();
-        for (int k = fixed.size() - 1; k >= 0 && isOver(shape); k--) {
-            Field last = fixed.get(k);
-            last.forget();
-            forgotten.add(last);
-            tell(last, "names no lock");
-            unguard(shape, field -> field.guard().lock().contains(last));
+        int kept = fixed.size() - (int) Math.min(fixed.size(), Math.max(0, finals(shape) - MOST_FINAL));
+        forget(shape, fixed.subList(kept, fixed.size()));
+        for (int k = kept - 1; k >= 0 && isOver(shape); k--) {
+            forget(shape, fixed.subList(k, k + 1));
         }
         if (isOver(shape)) {
             unguard(shape, field -> true);
+        }
+    }
+
+    private void forget(Shape shape, List<Field> lost) {
+        for (Field each : lost) {
+            each.forget();
+            forgotten.add(each);
+            tell(each, "names no lock");
+        }
+        Set<Field> these = Set.copyOf(lost);
+        if (!these.isEmpty()) {
+            unguard(shape, field -> field.guard().lock().stream().anyMatch(these::contains));
         }
     }
 

@@ -33,7 +33,6 @@ public final class Families {
     private final Map<JavaMethod, JavaMethod> roots = new HashMap<>();
     private final Map<String, String> spellings = new HashMap<>();
     private final Map<String, Integer> numbers = new HashMap<>();
-    private final Map<JavaClass, Set<JavaClass>> aboves = new HashMap<>();
     private final Set<JavaClass> extended = new HashSet<>();
 
     public Families(Program program) {
@@ -60,9 +59,8 @@ public final class Families {
             return List.of();
         }
         for (JavaClass above = above(method.owner()); above != null; above = above(above)) {
-            for (JavaMethod other : above.methods()) {
-                if (other.isVirtual() && other.symbol().getSimpleName().equals(method.symbol().getSimpleName())
-                        && overrides(method, other, method.owner())) {
+            for (JavaMethod other : program.overriding().named(above, method.symbol().getSimpleName())) {
+                if (other.isVirtual() && overrides(method, other, method.owner())) {
                     return List.of(other);
                 }
             }
@@ -71,7 +69,7 @@ public final class Families {
     }
 
     public boolean overrides(JavaMethod method, JavaMethod other, JavaClass self) {
-        return program.attribution().elements().overrides(method.symbol(), other.symbol(), self.symbol());
+        return program.overriding().overrides(method, other, self);
     }
 
     /** The class of the sources that a class extends, or null. */
@@ -82,10 +80,8 @@ public final class Families {
     /** The method that runs for an object of class {@code self}, or null where it isn't at hand. */
     public JavaMethod implementation(JavaClass self, JavaMethod wanted) {
         for (JavaClass each = self; each != null; each = above(each)) {
-            for (JavaMethod own : each.methods()) {
-                boolean named = own.symbol().getSimpleName().equals(wanted.symbol().getSimpleName());
-                if (own == wanted && !own.isAbstract() || named && own.isVirtual() && !own.isAbstract()
-                        && overrides(own, wanted, self)) {
+            for (JavaMethod own : program.overriding().named(each, wanted.symbol().getSimpleName())) {
+                if (!own.isAbstract() && (own == wanted || own.isVirtual() && overrides(own, wanted, self))) {
                     return own;
                 }
             }
@@ -103,16 +99,16 @@ public final class Families {
                 || method.owner().isInterface()) {
             return false;
         }
-        List<JavaClass> below = program.classes().stream().filter(each -> each != method.owner()
-            && isBelow(each, method.owner()) && !each.symbol().getModifiers().contains(Modifier.ABSTRACT)).toList();
+        List<JavaClass> below = below(method.owner()).stream().filter(each -> each != method.owner()
+            && !each.symbol().getModifiers().contains(Modifier.ABSTRACT)).toList();
         return !below.isEmpty() && below.stream().allMatch(each -> implementation(each, method) != method);
     }
 
     private JavaMethod defaultOf(JavaClass self, JavaMethod wanted) {
         List<JavaMethod> found = new ArrayList<>();
-        for (JavaClass each : program.classes()) {
-            if (each.isInterface() && isBelow(self, each)) {
-                for (JavaMethod own : each.methods()) {
+        for (JavaClass each : program.overriding().above(self)) {
+            if (each.isInterface()) {
+                for (JavaMethod own : program.overriding().named(each, wanted.symbol().getSimpleName())) {
                     if (!own.isAbstract() && own.isVirtual() && (own == wanted || overrides(own, wanted, self))) {
                         found.add(own);
                     }
@@ -125,22 +121,22 @@ public final class Families {
 
     /** Whether a class is another one or below it. */
     public boolean isBelow(JavaClass one, JavaClass other) {
-        return aboves.computeIfAbsent(one, each -> {
-            Set<JavaClass> found = new HashSet<>();
-            collect(each.symbol().asType(), found, new HashSet<>());
-            return found;
-        }).contains(other);
+        return program.overriding().isBelow(one, other);
     }
 
-    /** The classes of the sources that a type is or extends, through those of libraries too. */
-    private void collect(TypeMirror type, Set<JavaClass> found, Set<Element> seen) {
-        if (type instanceof DeclaredType declared && seen.add(declared.asElement())) {
-            JavaClass known = program.find(declared.asElement());
-            if (known != null) {
-                found.add(known);
-            }
-            program.attribution().types().directSupertypes(type).forEach(each -> collect(each, found, seen));
-        }
+    /** A class and all below it, in the order of the sources. */
+    public List<JavaClass> below(JavaClass each) {
+        return program.overriding().below(each);
+    }
+
+    /** A class, and all above and below it, in the order of the sources. */
+    public List<JavaClass> kin(JavaClass each) {
+        return program.overriding().kin(each);
+    }
+
+    /** Whether another method may run in the place of one. */
+    public boolean isOverridden(JavaMethod method) {
+        return !program.overriding().of(method).isEmpty();
     }
 
     /** How a skeleton spells the name of a method. */

@@ -44,6 +44,7 @@ public final class Program {
     private final Map<Element, JavaMethod> methods = new LinkedHashMap<>();
     private final Map<String, Integer> lambdas = new HashMap<>();
     private final List<Shape> shapes = new ArrayList<>();
+    private final Overriding overriding;
     private final Map<Place, Touch> touches = new HashMap<>();
     private final Set<Place> endless = new HashSet<>();
     private final Shape object = new Shape("Object", null);
@@ -64,6 +65,7 @@ public final class Program {
             JavaClass above = each.isInterface() ? null : find(each.symbol().getSuperclass());
             each.shape().parent(above == null ? object : above.shape());
         }
+        overriding = new Overriding(this);
     }
 
     /** Finds the classes, outer ones first, and their methods. */
@@ -160,6 +162,11 @@ public final class Program {
     /** All methods of a name. */
     public List<JavaMethod> named(CharSequence name) {
         return byName.getOrDefault(name.toString(), List.of());
+    }
+
+    /** Which methods have the place of which. */
+    public Overriding overriding() {
+        return overriding;
     }
 
     public Collection<JavaClass> classes() {

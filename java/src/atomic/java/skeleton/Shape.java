@@ -1,7 +1,9 @@
 package atomic.java.skeleton;
 
 import java.util.ArrayList;
+import java.util.HashSet;
 import java.util.List;
+import java.util.Set;
 
 /** A class of a skeleton. */
 public final class Shape {
@@ -9,6 +11,7 @@ public final class Shape {
     private final Place place;
     private Shape parent;
     private final List<Field> fields = new ArrayList<>();
+    private final Set<String> names = new HashSet<>();
     private final List<Method> methods = new ArrayList<>();
 
     public Shape(String name, Place place) {
@@ -35,6 +38,16 @@ public final class Shape {
 
     public List<Field> fields() {
         return fields;
+    }
+
+    public void add(Field field) {
+        fields.add(field);
+        names.add(field.name());
+    }
+
+    /** Whether some field was made with this name. */
+    public boolean hasField(String wanted) {
+        return names.contains(wanted);
     }
 
     public List<Method> methods() {

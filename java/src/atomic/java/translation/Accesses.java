@@ -51,7 +51,7 @@ final class Accesses {
 
     private static boolean isOwn(Tree at) {
         return at instanceof IdentifierTree || at instanceof MemberSelectTree select
-            && (select.getExpression().toString().equals("this"));
+            && (Uses.isName(select.getExpression(), "this"));
     }
 
     /** Reads a field; what it holds. */

@@ -119,7 +119,7 @@ record Attempt(MethodInvocationTree look, MethodInvocationTree change, VariableE
         ExpressionTree object = ((MemberSelectTree) call.getMethodSelect()).getExpression();
         Element symbol = services.attribution().element(object);
         boolean own = object instanceof IdentifierTree
-            || object instanceof MemberSelectTree select && select.getExpression().toString().equals("this");
+            || object instanceof MemberSelectTree select && Uses.isName(select.getExpression(), "this");
         TypeMirror type = services.attribution().type(object);
         if (!own || type == null || !classes.contains(services.attribution().types().erasure(type).toString())
                 || !(symbol instanceof VariableElement variable)) {

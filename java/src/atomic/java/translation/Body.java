@@ -268,7 +268,7 @@ final class Body {
         if (known == null) {
             String java = variable.getSimpleName().toString();
             Field field = new Field(target.owner(), services.program().names().invent(java, "=" + java), shape, true);
-            target.owner().fields().add(field);
+            target.owner().add(field);
             known = new Value.Named(Path.of(new Path.Root(Path.Kind.THIS, "this", target.owner())).then(field));
             locals.put(variable, known);
         }

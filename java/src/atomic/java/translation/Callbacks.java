@@ -87,7 +87,7 @@ final class Callbacks {
                 || called.choice().elsewhere()
                 || !(called.at() instanceof MethodInvocationTree call)
                 || !(call.getMethodSelect() instanceof MemberSelectTree select)
-                || select.getExpression().toString().endsWith("super")
+                || Calls.isSuper(select)
                 || symbol.getEnclosingElement().toString().equals("java.lang.Object")) {
             return;
         }
@@ -139,12 +139,11 @@ final class Callbacks {
 
     /** Calls on an object, which is this one where none is written. */
     private void emit(JavaClass known, TypeElement wanted, ExpressionTree object, LibraryCalls.Called called) {
-        boolean own = object == null || object.toString().equals("this");
+        boolean own = object == null || Uses.isName(object, "this");
         Value me = own ? body.me(services.attribution().start(called.at())) : null;
         List<Part> calls = new ArrayList<>();
-        for (JavaClass each : services.program().classes()) {
-            boolean kin = services.families().isBelow(each, known) || services.families().isBelow(known, each);
-            for (JavaMethod method : kin ? each.methods() : List.<JavaMethod>of()) {
+        for (JavaClass each : services.families().kin(known)) {
+            for (JavaMethod method : each.methods()) {
                 if (method.isVirtual() && !method.isAbstract() && replaces(method, wanted)) {
                     boolean fits = me instanceof Value.Named && me.type().fits(each.shape());
                     calls.add(new Part.Call(fits ? me : new Value.Opaque(each.shape()), services.methods().of(method),

@@ -17,6 +17,7 @@ import com.sun.source.tree.MethodInvocationTree;
 import com.sun.source.tree.NewClassTree;
 import com.sun.source.tree.Tree;
 import java.util.ArrayList;
+import java.util.Comparator;
 import java.util.List;
 import javax.lang.model.element.Element;
 import javax.lang.model.element.ElementKind;
@@ -25,6 +26,9 @@ import javax.lang.model.element.VariableElement;
 
 /** Calls of methods and constructors. */
 final class Calls {
+    /** In how many classes of a line below a method's own it may stand by {@code super}. */
+    private static final int MOST_HEIRS = 8;
+
     private final Services services;
     private final Body body;
     private final Expressions expressions;
@@ -92,7 +96,8 @@ final class Calls {
         return own == null ? new Value.Opaque(method.owner().shape()) : own;
     }
 
-    private static boolean isSuper(ExpressionTree select) {
+    /** Whether a name is one of {@code super}, or of {@code A.super}. */
+    static boolean isSuper(ExpressionTree select) {
         if (!(select instanceof MemberSelectTree member)) {
             return false;
         }
@@ -147,23 +152,36 @@ final class Calls {
         Value holder = node && receiver instanceof Value.Node one ? one.container() : receiver;
         if (holder instanceof Value.Fresh) {
             fresh(method, arguments, tree);
-        } else if (tree instanceof MethodInvocationTree call && isSuper(call.getMethodSelect())
-                && !method.owner().isInterface() && !method.isAbstract()) {
-            emit(services.methods().of(method, body.self(), false), holder, arguments, tree);
         } else if (tree instanceof MethodInvocationTree call && isSuper(call.getMethodSelect())) {
-            emit(services.methods().of(method, body.self(), false), holder, arguments, tree);
+            emit(services.methods().of(method, heir(method), false), holder, arguments, tree);
         } else {
             emit(services.methods().of(method), holder, arguments, tree);
         }
     }
 
+    /**
+     * The class that has a method by {@code super}: this one. Where each of many classes calls that of the one above, this
+     * would be as many methods of each; so from some way up on it is a class above, whose objects these are too.
+     */
+    private JavaClass heir(JavaMethod method) {
+        List<JavaClass> line = new ArrayList<>();
+        for (JavaClass each = body.self(); each != null && each != method.owner(); each = services.families().above(each)) {
+            line.add(each);
+        }
+        boolean far = line.size() > MOST_HEIRS && services.families().isBelow(body.self(), method.owner())
+            && !method.owner().isInterface();
+        return far ? line.get(line.size() - MOST_HEIRS) : body.self();
+    }
+
     /** A call on an object that nobody else knows: any method that may run there, without the steps on that object. */
     private void fresh(JavaMethod method, List<Value> arguments, Tree tree) {
         List<Part> all = new ArrayList<>();
-        for (JavaMethod each : services.program().named(method.symbol().getSimpleName())) {
-            boolean runs = each == method || method.isVirtual() && !each.isAbstract() && each.isVirtual()
-                && services.families().overrides(each, method, each.owner());
-            if (runs && !each.isAbstract()) {
+        List<JavaMethod> mayRun = new ArrayList<>(List.of(method));
+        services.program().overriding().of(method).stream().filter(each -> method.isVirtual() && each.isVirtual())
+            .forEach(mayRun::add);
+        mayRun.sort(Comparator.comparing(JavaMethod::place));
+        for (JavaMethod each : mayRun) {
+            if (!each.isAbstract()) {
                 all.add(body.collect(() -> emit(services.methods().of(each, each.owner(), true),
                     new Value.Fresh(each.owner().shape()), arguments, tree)));
             }

@@ -128,9 +128,8 @@ final class Comparisons {
     void own(JavaClass known, Set<String> names, Tree at) {
         List<Part> calls = new ArrayList<>();
         names.forEach(name -> parts(known, name, at));
-        for (JavaClass each : services.program().classes()) {
-            boolean kin = services.families().isBelow(each, known) || services.families().isBelow(known, each);
-            for (JavaMethod method : kin ? each.methods() : List.<JavaMethod>of()) {
+        for (JavaClass each : services.families().kin(known)) {
+            for (JavaMethod method : each.methods()) {
                 if (names.contains(method.symbol().getSimpleName().toString()) && method.isVirtual()
                         && !method.isAbstract() && method.symbol().getParameters().size() <= 1) {
                     calls.add(new Part.Call(new Value.Opaque(each.shape()), services.methods().of(method),

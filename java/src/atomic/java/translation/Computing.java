@@ -100,8 +100,7 @@ final class Computing {
     }
 
     private boolean isAlone(JavaMethod method) {
-        return !method.isVirtual() || services.program().named(method.symbol().getSimpleName()).stream().noneMatch(other ->
-            other != method && services.families().overrides(other, method, other.owner()));
+        return !method.isVirtual() || services.program().overriding().of(method).isEmpty();
     }
 
     /** Whether a function that a call is given only computes. */
@@ -204,7 +203,7 @@ final class Computing {
             ExpressionTree bare = Uses.bare(target);
             Element symbol = services.attribution().element(bare);
             boolean own = bare instanceof IdentifierTree
-                || bare instanceof MemberSelectTree select && select.getExpression().toString().equals("this");
+                || bare instanceof MemberSelectTree select && Uses.isName(select.getExpression(), "this");
             holds &= own && symbol instanceof VariableElement variable && (!variable.getKind().isField()
                 || method != null && method.isConstructor() && variable.getEnclosingElement() == method.owner().symbol()
                 && !variable.getModifiers().contains(Modifier.STATIC));

@@ -72,7 +72,8 @@ final class Contents {
 
     /** Tells where the object that is changed here gets out of its field: who has it needs no lock to look at it. */
     private void exits(ExpressionTree named, boolean write) {
-        if (write && services.attribution().element(Uses.bare(named)) instanceof VariableElement field) {
+        if (write && services.attribution().element(Uses.bare(named)) instanceof VariableElement field
+                && services.isFirstChange(field)) {
             services.ownership().exits(field).forEach(each -> services.hint(each, "object of others: what "
                 + field.getSimpleName() + " holds gets out here, so that others may touch it without any lock"));
         }

@@ -49,17 +49,16 @@ final class Dispatch {
     }
 
     private boolean hasImplementation(JavaMethod method, JavaClass self) {
-        return services.program().classes().stream().anyMatch(each -> each != self
-            && services.families().isBelow(each, self) && services.families().implementation(each, method) != null);
+        return services.families().below(self).stream().anyMatch(each -> each != self
+            && services.families().implementation(each, method) != null);
     }
 
     /** A call of each method that may run: of the classes furthest up, since those below override theirs. */
     private List<Part> calls(JavaMethod method, JavaClass self, Body body) {
         List<Part> calls = new ArrayList<>();
-        for (JavaClass each : services.program().classes()) {
+        for (JavaClass each : services.families().below(self)) {
             JavaClass above = services.families().above(each);
-            boolean top = !each.isInterface() && services.families().isBelow(each, self)
-                && (above == null || !services.families().isBelow(above, self));
+            boolean top = !each.isInterface() && (above == null || !services.families().isBelow(above, self));
             if (top) {
                 collect(method, each, body, calls);
             }
@@ -72,7 +71,7 @@ final class Dispatch {
     private void collect(JavaMethod method, JavaClass each, Body body, List<Part> calls) {
         JavaMethod found = services.families().implementation(each, method);
         if (found == null) {
-            services.program().classes().stream().filter(below -> services.families().above(below) == each)
+            services.families().below(each).stream().filter(below -> services.families().above(below) == each)
                 .forEach(below -> collect(method, below, body, calls));
         } else if (found != method) {
             calls.add(call(found, each, body));

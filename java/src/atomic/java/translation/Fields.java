@@ -52,6 +52,7 @@ public final class Fields {
     private final Map<VariableElement, Map<Shape, Field>> inherited = new HashMap<>();
     private final Map<VariableElement, Boolean> settled = new HashMap<>();
     private final Map<JavaClass, Field> statics = new HashMap<>();
+    private final Map<JavaClass, Guards.Lock> nodeGuards = new HashMap<>();
     private final Map<Shape, Field> outers = new HashMap<>();
     private final Map<String, Set<JavaClass>> declaring = new HashMap<>();
 
@@ -138,11 +139,11 @@ public final class Fields {
             name = owner.symbol().getSimpleName() + "_" + name;
             shown = owner.symbol().getSimpleName() + "." + shown;
         }
-        boolean plain = name.equals(shown) && home.fields().stream().noneMatch(each -> each.name().equals(name(wish)))
-            && !isInherited(java, owner);
+        boolean plain = name.equals(shown) && (home.fields().isEmpty()
+            || !home.hasField(program.names().plain(wish.name()))) && !isInherited(java, owner);
         Field field = new Field(home, plain ? program.names().plain(name) : program.names().invent(name, shown),
             wish.type(), wish.fixed() && holder != Holder.CONTAINER);
-        home.fields().add(field);
+        home.add(field);
         if (holder == Holder.CONTAINER) {
             field.standForNodes();
         }
@@ -169,10 +170,6 @@ public final class Fields {
         return new Home(field, holder);
     }
 
-    private String name(Wish wish) {
-        return program.names().plain(wish.name());
-    }
-
     /** Numbers of 64 bits are written in two halves. */
     private static boolean isWide(javax.lang.model.type.TypeMirror type) {
         return type.getKind() == javax.lang.model.type.TypeKind.LONG
@@ -181,8 +178,8 @@ public final class Fields {
 
     /** Whether a class above or below has a field of this name, which in a skeleton it may not. */
     private boolean isInherited(VariableElement java, JavaClass owner) {
-        return declaring.getOrDefault(java.getSimpleName().toString(), Set.of()).stream().anyMatch(each -> each != owner
-            && (families.isBelow(each, owner) || families.isBelow(owner, each)));
+        Set<JavaClass> all = declaring.getOrDefault(java.getSimpleName().toString(), Set.of());
+        return all.size() > 1 && families.kin(owner).stream().anyMatch(each -> each != owner && all.contains(each));
     }
 
     /** The field that stands for one of a library's class, in the class furthest up that has it; with a type it is final. */
@@ -202,7 +199,7 @@ public final class Fields {
                 // The library's own methods touch it too, with locks that aren't known here.
                 field.leaveUnguarded();
             }
-            home.fields().add(field);
+            home.add(field);
             return field;
         });
     }
@@ -221,7 +218,11 @@ public final class Fields {
         }
         Guards.Lock lock = guards.of(java);
         if (lock == null && home.holder() == Holder.CONTAINER) {
-            lock = containersGuard(program.find(java.getEnclosingElement()));
+            JavaClass node = program.find(java.getEnclosingElement());
+            if (!nodeGuards.containsKey(node)) {
+                nodeGuards.put(node, containersGuard(node));
+            }
+            lock = nodeGuards.get(node);
         }
         if (lock != null) {
             boolean writesOnly = java.getModifiers().contains(Modifier.VOLATILE)
@@ -289,7 +290,7 @@ public final class Fields {
     }
 
     private static boolean isSelf(Tree target) {
-        return !(target instanceof MemberSelectTree select) || select.getExpression().toString().equals("this");
+        return !(target instanceof MemberSelectTree select) || Uses.isName(select.getExpression(), "this");
     }
 
     /** Whether a tree belongs to a constructor or an initialiser of the field's class. */
@@ -335,7 +336,7 @@ public final class Fields {
             program.shapes().add(shape);
             Field field = new Field(program.statics(), program.names().invent(each.shape().name() + "_class",
                 "=" + shown + ".class"), shape, true);
-            program.statics().fields().add(field);
+            program.statics().add(field);
             return field;
         });
     }
@@ -346,7 +347,7 @@ public final class Fields {
             Field field = new Field(inner, program.names().invent("outer",
                 "=" + program.names().shown(outer.name()) + ".this"), outer, true);
             field.leadsOut();
-            inner.fields().add(field);
+            inner.add(field);
             return field;
         });
     }

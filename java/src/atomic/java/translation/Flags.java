@@ -16,6 +16,10 @@ record Flags(Services services) {
 
     /** Whether a field is such a flag. */
     boolean never(VariableElement field) {
+        return services.facts().of(field, "flag", this::find);
+    }
+
+    private boolean find(VariableElement field) {
         boolean flag = field.getKind().isField() && field.asType().getKind() == TypeKind.BOOLEAN
             && field.getModifiers().contains(Modifier.PRIVATE) && field.getModifiers().contains(Modifier.VOLATILE)
             && !services.uses().isReflected(field);

@@ -84,7 +84,7 @@ final class Helpers {
     /** Whether it is surely this method that runs, on this very object, which others may know already, or on none. */
     private boolean isHelper(MethodInvocationTree tree, JavaMethod method) {
         boolean own = tree.getMethodSelect() instanceof IdentifierTree
-            || tree.getMethodSelect() instanceof MemberSelectTree select && select.getExpression().toString().equals("this");
+            || tree.getMethodSelect() instanceof MemberSelectTree select && Uses.isName(select.getExpression(), "this");
         boolean here = method.isStatic() || own && (method.owner() == body.self()
             || !method.isPrivate() && services.families().isBelow(body.self(), method.owner()));
         return here && services.ownership().localFunctions().isFixed(method) && !body.isFresh();

@@ -8,8 +8,10 @@ import com.sun.source.tree.IfTree;
 import com.sun.source.tree.LabeledStatementTree;
 import com.sun.source.tree.StatementTree;
 import com.sun.source.tree.Tree;
+import java.util.Collections;
 import java.util.HashMap;
 import java.util.HashSet;
+import java.util.IdentityHashMap;
 import java.util.List;
 import java.util.Map;
 import java.util.Set;
@@ -37,27 +39,39 @@ final class Leavings {
         }
     }
 
-    /** What stands in place of a branch: nothing, where it leaves a loop. */
-    Part take(StatementTree branch, Part part) {
+    /** Notes a branch that leaves a loop. */
+    void take(StatementTree branch, Part part) {
         if (branch == null || part.isNothing() || !Jumps.leaves(branch)) {
-            return part;
+            return;
         }
         Tree each = services.attribution().parent(branch);
         while (each instanceof BlockTree || each instanceof IfTree || each instanceof LabeledStatementTree) {
             each = services.attribution().parent(each);
         }
         List<Part> last = open.get(each);
-        if (last == null) {
-            return part;
+        if (last != null) {
+            last.add(part);
         }
-        last.add(part);
-        return Part.NOTHING;
+    }
+
+    /** A turn without the branches that leave the loop; of these, too, none has another one in it from here on. */
+    static Part without(Part turn, List<Part> last) {
+        Set<Part> taken = Collections.newSetFromMap(new IdentityHashMap<>());
+        taken.addAll(last);
+        last.replaceAll(branch -> branch.map(each -> without(each, taken)));
+        return taken.isEmpty() ? turn : without(turn, taken);
+    }
+
+    private static Part without(Part part, Set<Part> taken) {
+        return taken.contains(part) ? Part.NOTHING : part.map(each -> without(each, taken));
     }
 
     /** Whether what is done behind a loop names no local of a turn. */
     static boolean areApart(Part turn, List<Part> last) {
         Set<Path.Root> declared = new HashSet<>();
-        declared(turn, declared);
+        if (!last.isEmpty()) {
+            declared(turn, declared);
+        }
         return last.stream().noneMatch(each -> names(each, declared));
     }
 

@@ -269,8 +269,9 @@ final class LibraryCalls {
     private boolean isAtHand(Called called) {
         Element symbol = services.attribution().element(called.at());
         var types = services.attribution().types();
-        return symbol != null && services.program().classes().stream().anyMatch(each -> types.isSubtype(
-            types.erasure(each.symbol().asType()), types.erasure(symbol.getEnclosingElement().asType())));
+        return symbol != null && services.atHand().computeIfAbsent(symbol.getEnclosingElement(), home ->
+            services.program().classes().stream().anyMatch(each -> types.isSubtype(
+                types.erasure(each.symbol().asType()), types.erasure(home.asType()))));
     }
 
     private void unknown(Called called) {

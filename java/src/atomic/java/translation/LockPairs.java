@@ -113,7 +113,7 @@ final class LockPairs {
 
     /** What names an object: {@code this}, or a local or parameter that keeps its value; else null. */
     private Object name(ExpressionTree tree) {
-        return Uses.bare(tree).toString().equals("this") ? "this" : local(tree);
+        return Uses.isName(Uses.bare(tree), "this") ? "this" : local(tree);
     }
 
     /** The local or parameter that an expression names and that keeps its value, or null. */

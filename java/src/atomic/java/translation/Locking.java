@@ -140,8 +140,7 @@ final class Locking {
         boolean fixed = plain && (method.isPrivate() || method.symbol().getModifiers().contains(Modifier.FINAL)
             || method.owner().symbol().getModifiers().contains(Modifier.FINAL)
             || !services.program().options().strict());
-        boolean alone = fixed && services.program().named(method.symbol().getSimpleName()).stream().noneMatch(each ->
-            each != method && each.isVirtual() && services.families().overrides(each, method, each.owner()));
+        boolean alone = fixed && services.program().overriding().of(method).stream().noneMatch(JavaMethod::isVirtual);
         return alone ? method : null;
     }
 
@@ -149,7 +148,7 @@ final class Locking {
     boolean isFixed(ExpressionTree tree, boolean ofClass) {
         if (tree instanceof MemberSelectTree select && select.getIdentifier().contentEquals("class")) {
             return true;
-        } else if (tree.toString().equals("this")) {
+        } else if (Uses.isName(tree, "this")) {
             return !ofClass;
         }
         return isOnOwnObject(tree) && services.attribution().element(tree) instanceof VariableElement field
@@ -159,7 +158,7 @@ final class Locking {
 
     private static boolean isOnOwnObject(ExpressionTree tree) {
         return tree instanceof IdentifierTree
-            || tree instanceof MemberSelectTree select && select.getExpression().toString().equals("this");
+            || tree instanceof MemberSelectTree select && Uses.isName(select.getExpression(), "this");
     }
 
     /** Whether an expression names a field of this class, on its own object, that keeps its value. */

@@ -91,7 +91,7 @@ final class Rechecks {
             return true;
         }
         boolean own = value instanceof IdentifierTree
-            || value instanceof MemberSelectTree select && select.getExpression().toString().equals("this");
+            || value instanceof MemberSelectTree select && Uses.isName(select.getExpression(), "this");
         return own && services.attribution().element(value) instanceof VariableElement named && named != local
             && (named.getKind().isField() ? services.program().find(named.getEnclosingElement()) != null
                 && services.fields().isSettled(named) : services.uses().isSettled(named));

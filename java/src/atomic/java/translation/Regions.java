@@ -111,11 +111,11 @@ final class Regions {
     private int length(List<ExpressionTree> lock, List<? extends StatementTree> rest) {
         for (int k = 0; k < rest.size(); k++) {
             StatementTree each = rest.get(k);
-            boolean simple = !Jumps.mayLeave(rest.subList(0, k));
+            List<? extends StatementTree> before = rest.subList(0, k);
             if (each instanceof TryTree tried && release(lock, tried) >= 0) {
-                return simple && rest.subList(0, k).stream().allMatch(Regions::isHarmless) ? k + 1 : 0;
+                return before.stream().allMatch(Regions::isHarmless) && !Jumps.mayLeave(before) ? k + 1 : 0;
             } else if (isRelease(each, lock)) {
-                return simple ? k + 1 : 0;
+                return !Jumps.mayLeave(before) ? k + 1 : 0;
             }
         }
         return 0;

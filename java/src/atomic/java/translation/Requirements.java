@@ -39,8 +39,8 @@ final class Requirements {
     void addWrappers(JavaMethod method, Body body) {
         if (method.isConstructor() || method.isStatic() || method.isPrivate() || body.isFresh()
                 || UNLOCKED.contains(method.symbol().getSimpleName().toString())
-                || !services.ownership().isWrappedByOuter(method.owner()) || services.program().classes().stream()
-                    .anyMatch(each -> services.families().above(each) == method.owner())) {
+                || !services.ownership().isWrappedByOuter(method.owner()) || services.families()
+                    .below(method.owner()).stream().anyMatch(each -> services.families().above(each) == method.owner())) {
             return;
         }
         Value outer = body.object(method.owner().outer(), 0);

@@ -48,9 +48,9 @@ final class SecondLooks {
         List<? extends StatementTree> rest = all.subList(at + 1, all.size());
         List<? extends StatementTree> inside = regions.inside(rest, false);
         boolean again = inside != null && inside.stream().limit(FIRST).anyMatch(IfTree.class::isInstance);
-        boolean dropped = kept == null || services.attribution().element(kept) instanceof VariableElement local
-            && mentions(branch.getCondition(), local) && (!mentions(rest, local) || isGivenAnew(inside, local));
-        if (!again || !dropped) {
+        boolean dropped = again && (kept == null || services.attribution().element(kept) instanceof VariableElement local
+            && mentions(branch.getCondition(), local) && (!mentions(rest, local) || isGivenAnew(inside, local)));
+        if (!dropped) {
             return 0;
         }
         services.hint(kept == null ? branch.getCondition() : kept, "second look: the region behind this asks again, so that"

@@ -16,8 +16,11 @@ import atomic.java.skeleton.Value;
 import com.sun.source.tree.ExpressionTree;
 import com.sun.source.tree.Tree;
 import java.util.HashMap;
+import java.util.HashSet;
 import java.util.List;
 import java.util.Map;
+import java.util.Set;
+import javax.lang.model.element.Element;
 import javax.lang.model.element.VariableElement;
 
 /** What all translators share: what is known of the program, and the methods that stand for a library's. */
@@ -33,6 +36,9 @@ final class Services {
     private final Computing computing;
     private final Immutables immutables = new Immutables(this);
     private final Map<String, Method> helpers = new HashMap<>();
+    private final Facts facts = new Facts();
+    private final Set<VariableElement> changed = new HashSet<>();
+    private final Map<Element, Boolean> atHand = new HashMap<>();
     private final Field state;
 
     Services(Program program, Methods methods) {
@@ -48,7 +54,7 @@ final class Services {
         computing = new Computing(this);
         state = new Field(program.helpers(), program.names().invent("state", "a step"), null, false);
         state.leaveUnguarded();
-        program.helpers().fields().add(state);
+        program.helpers().add(state);
     }
 
     Program program() {
@@ -89,6 +95,21 @@ final class Services {
 
     Methods methods() {
         return methods;
+    }
+
+    /** What is known of fields by all that is done with them. */
+    Facts facts() {
+        return facts;
+    }
+
+    /** Whether what a field holds is changed for the first time here, of which more is told then. */
+    boolean isFirstChange(VariableElement field) {
+        return changed.add(field);
+    }
+
+    /** Of library classes that were asked for, whether some class of the sources is one of them. */
+    Map<Element, Boolean> atHand() {
+        return atHand;
     }
 
     StableLooks stable() {

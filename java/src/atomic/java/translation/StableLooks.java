@@ -40,8 +40,16 @@ record StableLooks(Services services) {
             && call.getMethodSelect() instanceof MemberSelectTree select && LOOKS.contains(select.getIdentifier().toString())
             && services.attribution().element(Uses.bare(select.getExpression())) instanceof VariableElement field
             && isHidden(field) && services.fields().isSettled(field)
-            && (isMap(services.attribution().element(call)) && services.uses().of(field).stream().allMatch(this::adds)
-                || services.uses().of(field).stream().allMatch(this::setsOnce));
+            && (isMap(services.attribution().element(call)) && services.facts().of(field, "only grows", this::onlyGrows)
+                || services.facts().of(field, "set once by attempts", this::isOnlySetOnce));
+    }
+
+    private boolean onlyGrows(VariableElement map) {
+        return services.uses().of(map).stream().allMatch(this::adds);
+    }
+
+    private boolean isOnlySetOnce(VariableElement reference) {
+        return services.uses().of(reference).stream().allMatch(this::setsOnce);
     }
 
     /** Whether a use of an {@code AtomicReference} sets nothing but what is still null. */
@@ -72,10 +80,14 @@ record StableLooks(Services services) {
             && calls.contains(select.getIdentifier().toString()) && isHidden(field)
             && services.fields().isSettled(field)
             && "java.util.concurrent.atomic.LongAdder".equals(services.ownership().made(field))
-            && services.uses().of(field).stream().allMatch(use -> services.uses().isTarget(use)
-                || services.attribution().parent(use) instanceof MemberSelectTree each
-                && services.attribution().parent(each) instanceof MethodInvocationTree
-                && calls.contains(each.getIdentifier().toString()));
+            && services.facts().of(field, "only counts by " + calls.size(), key -> onlyDoes(key, calls));
+    }
+
+    private boolean onlyDoes(VariableElement counter, Set<String> calls) {
+        return services.uses().of(counter).stream().allMatch(use -> services.uses().isTarget(use)
+            || services.attribution().parent(use) instanceof MemberSelectTree each
+            && services.attribution().parent(each) instanceof MethodInvocationTree
+            && calls.contains(each.getIdentifier().toString()));
     }
 
     /** Whether a call only looks at an object in a hidden field which some other call changes while it holds a lock. */
@@ -84,7 +96,11 @@ record StableLooks(Services services) {
             && ALL_LOOKS.contains(select.getIdentifier().toString())
             && services.attribution().element(Uses.bare(select.getExpression())) instanceof VariableElement field
             && isHidden(field) && services.fields().isSettled(field)
-            && services.uses().of(field).stream().anyMatch(this::changesInRegion);
+            && services.facts().of(field, "changed in a region", this::isChangedInRegion);
+    }
+
+    private boolean isChangedInRegion(VariableElement field) {
+        return services.uses().of(field).stream().anyMatch(this::changesInRegion);
     }
 
     private boolean changesInRegion(Tree use) {
@@ -152,6 +168,10 @@ record StableLooks(Services services) {
 
     /** Whether a field is volatile and set in one place, in a region that looks first whether it is set. */
     boolean isSetOnce(VariableElement field) {
+        return services.facts().of(field, "set once", this::findSetOnce);
+    }
+
+    private boolean findSetOnce(VariableElement field) {
         if (!isHidden(field) || !field.getModifiers().contains(Modifier.VOLATILE) || field.asType().getKind().isPrimitive()) {
             return false;
         }

@@ -63,14 +63,14 @@ final class Stamps {
     }
 
     /** Whether a statement begins a look that takes no lock, and is checked afterwards. */
-    static boolean looks(StatementTree statement) {
-        return statement.toString().contains(".tryOptimisticRead()");
+    static boolean looks(StatementTree statement, Uses uses) {
+        return uses.hasStamped(statement, "tryOptimisticRead");
     }
 
     /** The statements behind the one that checks such a look. */
-    static List<? extends StatementTree> behind(List<? extends StatementTree> all) {
+    static List<? extends StatementTree> behind(List<? extends StatementTree> all, Uses uses) {
         for (int k = 0; k < all.size(); k++) {
-            if (all.get(k).toString().contains(".validate(")) {
+            if (uses.hasStamped(all.get(k), "validate")) {
                 return all.subList(k, all.size());
             }
         }

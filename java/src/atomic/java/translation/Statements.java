@@ -71,8 +71,9 @@ final class Statements extends SimpleTreeVisitor<Void, Void> {
             int locked = looked > 0 ? looked - 1 : regions.region(statement, rest);
             if (looked > 0 || locked > 0) {
                 k += locked;
-            } else if (services.program().sure() && Stamps.looks(statement) && Stamps.behind(rest).size() < rest.size()) {
-                k += rest.size() - Stamps.behind(rest).size();
+            } else if (services.program().sure() && Stamps.looks(statement, services.uses())
+                    && Stamps.behind(rest, services.uses()).size() < rest.size()) {
+                k += rest.size() - Stamps.behind(rest, services.uses()).size();
             } else if (statement instanceof IfTree branch && branches(branch, rest)) {
                 return;
             } else {
@@ -92,9 +93,11 @@ final class Statements extends SimpleTreeVisitor<Void, Void> {
         return body.collect(() -> one(statement));
     }
 
-    /** A branch, unless it leaves a loop: then it is done behind that one. */
+    /** A branch. One that leaves a loop is taken out of its turn where it can be done behind that. */
     private Part branch(StatementTree statement) {
-        return body.leavings().take(statement, part(statement));
+        Part part = part(statement);
+        body.leavings().take(statement, part);
+        return part;
     }
 
     /** An {@code if} of which one branch can't go on: the rest belongs to the other one. */
@@ -243,10 +246,11 @@ final class Statements extends SimpleTreeVisitor<Void, Void> {
             services.program().endless().add(services.attribution().place(tree));
         }
         List<Part> last = new ArrayList<>();
-        Part part = body.collect(() -> body.leavings().within(tree, last, turn));
+        Part whole = body.collect(() -> body.leavings().within(tree, last, turn));
+        Part part = Leavings.without(whole, last);
         if (!Leavings.areApart(part, last)) {
             last.clear();
-            part = body.collect(turn);
+            part = whole;
         }
         body.emit(once ? new Part.Either(part, Part.NOTHING)
             : new Part.Repeat(part, services.attribution().place(tree)));

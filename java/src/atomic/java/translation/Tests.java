@@ -150,7 +150,7 @@ final class Tests {
     boolean isOwn(ExpressionTree tree) {
         Element symbol = services.attribution().element(tree);
         return tree instanceof IdentifierTree || tree instanceof MemberSelectTree select && symbol != null
-            && (select.getExpression().toString().equals("this") || symbol.getModifiers().contains(Modifier.STATIC));
+            && (Uses.isName(select.getExpression(), "this") || symbol.getModifiers().contains(Modifier.STATIC));
     }
 
     /** The local that a statement gives what it looks at, or null. */

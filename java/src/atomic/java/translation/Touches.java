@@ -5,11 +5,13 @@ import atomic.java.program.Touch;
 import com.sun.source.tree.ArrayAccessTree;
 import com.sun.source.tree.EnhancedForLoopTree;
 import com.sun.source.tree.ExpressionTree;
+import com.sun.source.tree.LambdaExpressionTree;
 import com.sun.source.tree.MemberSelectTree;
 import com.sun.source.tree.MethodInvocationTree;
 import com.sun.source.tree.Tree;
 import com.sun.source.tree.VariableTree;
 import java.util.Set;
+import java.util.stream.Collectors;
 import javax.lang.model.element.Modifier;
 import javax.lang.model.element.VariableElement;
 
@@ -36,16 +38,22 @@ record Touches(Services services) {
             Object object = object(select.getExpression(), 0);
             if (object != null && !(kind(select.getIdentifier().toString(), call) == Touch.Kind.LOOK && isFlag(object))) {
                 services.program().touches().put(services.attribution().name(at),
-                    new Touch(object, kind(select.getIdentifier().toString(), call), call.getArguments().toString()));
+                    new Touch(object, kind(select.getIdentifier().toString(), call), asked(call)));
             }
         }
+    }
+
+    /** What a call asks for, as it is written; a function by its place alone, since functions may stand in each other. */
+    private String asked(MethodInvocationTree call) {
+        return call.getArguments().stream().map(each -> Uses.bare(each) instanceof LambdaExpressionTree
+            ? "function at " + services.attribution().start(each) : each.toString()).collect(Collectors.joining(","));
     }
 
     /** Whether a field holds a flag that never goes back: where it was seen to be set, a later look tells the same. */
     private boolean isFlag(Object object) {
         return object instanceof VariableElement field && field.getModifiers().contains(Modifier.PRIVATE)
             && field.asType().toString().equals("java.util.concurrent.atomic.AtomicBoolean")
-            && services.uses().of(field).stream().allMatch(this::keeps);
+            && services.facts().of(field, "keeps its flag", key -> services.uses().of(key).stream().allMatch(this::keeps));
     }
 
     private boolean keeps(Tree use) {

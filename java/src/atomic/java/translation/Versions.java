@@ -33,7 +33,7 @@ record Versions(Services services) {
         boolean finds = !write && parent instanceof MemberSelectTree select && select.getExpression() == at
             && FINDING.contains(select.getIdentifier().toString())
             && services.attribution().parent(select) instanceof MethodInvocationTree;
-        if ((write || finds) && grows(field)) {
+        if ((write || finds) && services.facts().of(field, "grows", this::grows)) {
             String asked = finds ? ((MethodInvocationTree) services.attribution().parent(parent)).getArguments().toString()
                 : "";
             services.program().touches().put(services.attribution().name(at),
