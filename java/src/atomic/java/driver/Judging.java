@@ -80,7 +80,7 @@ final class Judging {
                 wanted.add(pastLimit);
             }
             writer = pieces.writer();
-            text = writer.write(program.shapes(), wanted);
+            text = pieces.text(writer, wanted);
             repaired = repairs;
             // What is refused once may be refused again: only what is accepted is listed then.
             question = checker.ask(text.bytes(), listed && question == null);

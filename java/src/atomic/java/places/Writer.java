@@ -22,6 +22,7 @@ public final class Writer {
     private final Map<String, Shape> somes = new TreeMap<>();
     private final TreeMap<Integer, Method> lines = new TreeMap<>();
     private final Shape library;
+    private Frame frame;
 
     /** A writer whose helper methods stand in the class {@code library}. */
     public Writer(Names names, Shape library) {
@@ -35,11 +36,17 @@ public final class Writer {
         return this;
     }
 
+    /** Only the classes and fields of a frame. */
+    public Writer within(Frame named) {
+        frame = named;
+        return this;
+    }
+
     /** The whole text of the classes, with the methods {@code wanted}. */
     public Text write(List<Shape> shapes, Set<Method> wanted) {
         text.begin().line("class Main { void main() { } }");
         for (Shape shape : shapes) {
-            if (shape != library) {
+            if (shape != library && (frame == null || frame.shapes().contains(shape))) {
                 shape(shape, wanted);
             }
         }
@@ -80,7 +87,7 @@ public final class Writer {
     private void shape(Shape shape, Set<Method> wanted) {
         String parent = shape.parent() == null ? "" : " extends " + shape.parent().name();
         text.begin().put("class ").mark(shape.place()).open(shape.name() + parent);
-        List<Field> own = shape.fields().stream().filter(Field::used).toList();
+        List<Field> own = shape.fields().stream().filter(this::isWritten).toList();
         own.forEach(this::field);
         constructor(shape);
         shape.methods().stream().filter(wanted::contains).forEach(this::method);
@@ -112,10 +119,14 @@ public final class Writer {
     }
 
     /** The final fields of a class that are written, the furthest ancestor's first. */
-    private static List<Field> fixed(Shape shape) {
+    private List<Field> fixed(Shape shape) {
         List<Field> all = new java.util.ArrayList<>(shape.parent() == null ? List.of() : fixed(shape.parent()));
-        shape.fields().stream().filter(field -> field.fixed() && field.used()).forEach(all::add);
+        shape.fields().stream().filter(field -> field.fixed() && isWritten(field)).forEach(all::add);
         return all;
+    }
+
+    private boolean isWritten(Field field) {
+        return field.used() && (frame == null || frame.fields().contains(field));
     }
 
     private void method(Method method) {

@@ -75,6 +75,11 @@ public final class Field {
         return used && one == null;
     }
 
+    /** The field that is written: this one, or the one that stands for it. */
+    public Field written() {
+        return one == null ? this : one.written();
+    }
+
     /** From here on another field of the same guard is written in its place. */
     public void standFor(Field other) {
         one = other;
