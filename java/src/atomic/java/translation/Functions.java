@@ -14,6 +14,7 @@ import com.sun.source.tree.ExpressionTree;
 import com.sun.source.tree.IdentifierTree;
 import com.sun.source.tree.LambdaExpressionTree;
 import com.sun.source.tree.MemberReferenceTree;
+import com.sun.source.tree.MethodTree;
 import com.sun.source.tree.Tree;
 import com.sun.source.tree.VariableTree;
 import com.sun.source.util.TreeScanner;
@@ -24,7 +25,6 @@ import java.util.HashSet;
 import java.util.List;
 import java.util.Map;
 import java.util.Set;
-import java.util.stream.Stream;
 import javax.lang.model.element.VariableElement;
 
 /**
@@ -54,10 +54,15 @@ final class Functions {
     private final Map<JavaClass, List<Method>> implementations = new HashMap<>();
     private final Map<VariableElement, ExpressionTree> given = new HashMap<>();
     private final List<JavaMethod> helpers = new ArrayList<>();
+    private final Map<Tree, Set<Tree>> around = new HashMap<>();
+    private final Map<Tree, Integer> standing = new HashMap<>();
     private int bodies;
     private int open;
     private final Set<Tree> begun = new HashSet<>();
     private final Set<Apart> apart = new HashSet<>();
+    private final Map<VariableElement, ExpressionTree> bound = new HashMap<>();
+    private final Map<Apart, Integer> told = new HashMap<>();
+    private int bindings;
 
     Functions(Services services) {
         this.services = services;
@@ -88,22 +93,43 @@ final class Functions {
 
     /** Writes a helper's body, whose parameters stand for these functions. */
     void within(JavaMethod helper, Map<VariableElement, ExpressionTree> functions, Runnable work) {
-        Map<VariableElement, ExpressionTree> before = new HashMap<>(given);
+        Map<VariableElement, ExpressionTree> before = new HashMap<>();
         helpers.add(helper);
         services.methods().helper(helper.place());
-        given.putAll(functions);
+        functions.forEach((name, function) -> before.put(name, give(name, function)));
         try {
-            count(work);
+            count(() -> {
+                functions.forEach(this::bind);
+                work.run();
+            });
         } finally {
-            given.clear();
-            given.putAll(before);
+            before.forEach(this::give);
             helpers.remove(helpers.size() - 1);
+        }
+    }
+
+    /** A parameter stands for a function from here on, or for none; what it stood for before. */
+    private ExpressionTree give(VariableElement name, ExpressionTree function) {
+        ExpressionTree before = function == null ? given.remove(name) : given.put(name, function);
+        stand(before, -1);
+        stand(function, 1);
+        return before;
+    }
+
+    /** A name stands for a function from here on: what mentions it may mention other functions now. */
+    private void bind(VariableElement name, ExpressionTree function) {
+        if (bound.put(name, function) != function) {
+            bindings++;
         }
     }
 
     /** Writes a body within those that are open. */
     private void count(Runnable work) {
         bodies = open == 0 ? 1 : bodies + 1;
+        if (open == 0) {
+            bound.clear();
+            told.clear();
+        }
         open++;
         try {
             work.run();
@@ -122,15 +148,28 @@ final class Functions {
      */
     boolean mayBegin(JavaMethod helper, Collection<ExpressionTree> functions, Body body) {
         return hasRoom(body) && helpers.stream().filter(each -> each == helper).count() < DEEPEST
-            && Stream.concat(given.values().stream(), functions.stream()).noneMatch(each -> standsIn(each, helper));
+            && !standing.containsKey(helper.tree())
+            && functions.stream().noneMatch(each -> around(each).contains(helper.tree()));
     }
 
-    private boolean standsIn(Tree function, JavaMethod helper) {
-        Tree each = function;
-        while (each != null && each != helper.tree()) {
-            each = services.attribution().parent(each);
+    /** The methods that a function stands in. */
+    private Set<Tree> around(Tree function) {
+        return around.computeIfAbsent(function, key -> {
+            Set<Tree> all = new HashSet<>();
+            for (Tree each = function; each != null; each = services.attribution().parent(each)) {
+                if (each instanceof MethodTree) {
+                    all.add(each);
+                }
+            }
+            return all;
+        });
+    }
+
+    /** A function is given to a parameter from here on, or isn't any more. */
+    private void stand(ExpressionTree function, int more) {
+        if (function != null) {
+            around(function).forEach(each -> standing.merge(each, more, (one, other) -> one + other == 0 ? null : one + other));
         }
-        return each != null;
     }
 
     /** A function that is only called, and is given to a call that isn't written with it, is judged by itself too. */
@@ -143,6 +182,9 @@ final class Functions {
 
     /** The same of functions that a function mentions which is judged by itself: what it is then called with isn't known. */
     private void mentioned(Tree function, Body around) {
+        if (given.isEmpty()) {
+            return;
+        }
         new TreeScanner<Void, Void>() {
             @Override
             public Void visitIdentifier(IdentifierTree name, Void nothing) {
@@ -184,9 +226,11 @@ final class Functions {
 
     private void alone(ExpressionTree function, Body around) {
         boolean outermost = begun.isEmpty();
-        if (begun.add(function)) {
-            Value me = around.me(services.attribution().start(function)) == null ? null : around.me(Long.MAX_VALUE);
-            boolean first = apart.add(Apart.of(function, around, me));
+        Value me = around.me(services.attribution().start(function)) == null ? null : around.me(Long.MAX_VALUE);
+        Apart one = Apart.of(function, around, me);
+        boolean fresh = open == 0 || !Integer.valueOf(bindings).equals(told.put(one, bindings));
+        if (fresh && begun.add(function)) {
+            boolean first = apart.add(one);
             Method method = first ? method(function, around) : null;
             Body body = first ? body(function, method, around) : null;
             mentioned(function, around);

@@ -64,12 +64,14 @@ final class LockPairs {
         List<ExpressionTree> pair = inner != null && outer instanceof MemberSelectTree one
             && inner instanceof MemberSelectTree other && one.getIdentifier().equals(other.getIdentifier())
             ? pair(one.getExpression(), other.getExpression()) : List.of();
-        Map<VariableElement, Value> before = new HashMap<>(body.locals());
-        if (!pair.isEmpty()) {
-            Locking locking = new Locking(services, body);
-            body.locals().put(local(((MemberSelectTree) outer).getExpression()), locking.object(pair.get(0)));
-            body.locals().put(local(((MemberSelectTree) inner).getExpression()), locking.object(pair.get(1)));
+        if (pair.isEmpty()) {
+            regions.run();
+            return;
         }
+        Map<VariableElement, Value> before = new HashMap<>(body.locals());
+        Locking locking = new Locking(services, body);
+        body.locals().put(local(((MemberSelectTree) outer).getExpression()), locking.object(pair.get(0)));
+        body.locals().put(local(((MemberSelectTree) inner).getExpression()), locking.object(pair.get(1)));
         regions.run();
         body.locals().putAll(before);
     }
