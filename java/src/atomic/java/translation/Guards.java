@@ -13,6 +13,7 @@ import java.util.ArrayList;
 import java.util.HashMap;
 import java.util.List;
 import java.util.Map;
+import java.util.stream.Collectors;
 import javax.lang.model.element.AnnotationMirror;
 import javax.lang.model.element.AnnotationValue;
 import javax.lang.model.element.Element;
@@ -28,6 +29,7 @@ public final class Guards {
     private final Program program;
     private final Fields fields;
     private final Map<VariableElement, Lock> known = new HashMap<>();
+    private final Map<JavaClass, Map<String, VariableElement>> own = new HashMap<>();
 
     Guards(Program program, Fields fields) {
         this.program = program;
@@ -196,8 +198,10 @@ public final class Guards {
         }
 
         private VariableElement own(JavaClass each, String word) {
-            return each.symbol().getEnclosedElements().stream().filter(member -> member.getKind() == ElementKind.FIELD
-                && member.getSimpleName().contentEquals(word)).map(VariableElement.class::cast).findFirst().orElse(null);
+            return own.computeIfAbsent(each, key -> key.symbol().getEnclosedElements().stream()
+                .filter(member -> member.getKind() == ElementKind.FIELD).map(VariableElement.class::cast)
+                .collect(Collectors.toMap(field -> field.getSimpleName().toString(), field -> field, (one, other) -> one)))
+                .get(word);
         }
 
         private boolean behind(VariableElement found) {

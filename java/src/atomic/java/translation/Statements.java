@@ -26,6 +26,7 @@ import com.sun.source.tree.YieldTree;
 import com.sun.source.util.SimpleTreeVisitor;
 import java.util.ArrayList;
 import java.util.List;
+import java.util.RandomAccess;
 import java.util.Set;
 import javax.lang.model.element.VariableElement;
 
@@ -50,10 +51,13 @@ final class Statements extends SimpleTreeVisitor<Void, Void> {
         regions = new Regions(services, body, this);
     }
 
-    /** All statements of a block, in order. What is known of fields at its end is only known within it. */
+    /**
+     * All statements of a block, in order. What is known of fields at its end is only known within it. javac's own lists are
+     * walked over for each part of them.
+     */
     void all(List<? extends StatementTree> statements) {
         Set<VariableElement> stable = body.stable();
-        inOrder(statements);
+        inOrder(statements instanceof RandomAccess ? statements : List.copyOf(statements));
         body.stable(stable);
     }
 
