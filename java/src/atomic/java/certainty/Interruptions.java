@@ -50,12 +50,12 @@ public final class Interruptions {
     private record Pair(Object one, Object two) { }
 
     /** What is asked of another method for two events: whether it has a conflict with both. Many pairs ask the same. */
-    private record Question(Course course, Pair things, boolean changesOne, boolean changesTwo, boolean found, boolean apart,
-            boolean publishes) {
+    private record Question(Course course, Pair things, boolean changesOne, boolean changesTwo, boolean found, boolean twice,
+            boolean apart, boolean publishes) {
 
         static Question of(Course course, Event one, Event two) {
             return new Question(course, new Pair(one.thing(), two.thing()), one.writes(), two.writes(),
-                one.finds() && !one.isSame(two), one.finds() && two.finds() && !one.asked().equals(two.asked()),
+                one.finds() && !one.isSame(two), one.finds() && two.finds(), !one.asked().equals(two.asked()),
                 one.isPlain() && !two.isPlain() && one.writes());
         }
     }
@@ -98,7 +98,8 @@ public final class Interruptions {
         Event two = course.events().get(second);
         boolean tried = one.isSame(two) && course.compares(one.thing()) && (one.compares() || !one.writes());
         boolean half = !one.writes() && !course.looks(one) && second != first + 1;
-        return !tried && !half && (one.writes() || course.askedAgain(first) > second);
+        boolean made = one.kind() == Touch.Kind.MAKE || two.kind() == Touch.Kind.MAKE && one.writes();
+        return !tried && !half && !made && (one.writes() || course.askedAgain(first) > second);
     }
 
     /** A method that tells the two steps apart; else one of two that change, one by one, the things that are looked at. */
@@ -169,12 +170,12 @@ public final class Interruptions {
     private static boolean tells(Question asked) {
         Course course = asked.course();
         List<Event> firsts = course.events(asked.things().one()).stream().filter(each -> (asked.changesOne() || each.writes())
-            && !(asked.found() && each.kind() == Touch.Kind.ADD) && !(asked.changesOne() && !course.looks(each))).toList();
+            && !(asked.found() && each.kind().adds()) && !(asked.changesOne() && !course.looks(each))).toList();
         List<Event> seconds = firsts.isEmpty() ? List.of() : course.events(asked.things().two()).stream()
             .filter(each -> (asked.changesTwo() || each.writes())
                 && !(asked.changesOne() && asked.changesTwo() && !course.looks(each))).toList();
         return firsts.stream().anyMatch(each -> seconds.stream().anyMatch(other -> each.meets(other)
-            && !(asked.apart() && each == other) && !(asked.publishes() && isPublished(each, other))));
+            && !(asked.twice() && each == other && (asked.apart() || each.kind().adds())) && !(asked.publishes() && isPublished(each, other))));
     }
 
     /** Whether data is only looked at where what publishes it tells of it. */

@@ -25,7 +25,11 @@ public final class OtherNames {
     private final Map<Part.Access, Set<Path>> held = new IdentityHashMap<>();
 
     public OtherNames(Collection<Method> methods) {
-        new Held(methods).visit((method, access, locks, shared) -> note(access, locks));
+        this(new Held(methods));
+    }
+
+    OtherNames(Held known) {
+        known.visit((method, access, locks, shared) -> note(access, locks));
     }
 
     private void note(Part.Access access, Set<Path> locks) {

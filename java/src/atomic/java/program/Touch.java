@@ -20,6 +20,8 @@ public record Touch(Object object, Kind kind, String asked) {
         FIND,
         /** It adds what isn't there. */
         ADD,
+        /** It makes the object of a field that has none. */
+        MAKE,
         /** It changes something. */
         CHANGE,
         /** It changes one thing by a function of what is there, and where it tries again, what failed only looked. */
@@ -34,9 +36,14 @@ public record Touch(Object object, Kind kind, String asked) {
             return this != LOOK && this != FIND;
         }
 
+        /** Whether what was found before is found behind it too. */
+        public boolean adds() {
+            return this == ADD || this == MAKE;
+        }
+
         /** Whether it changes one thing at one moment, however many steps it counts as. */
         public boolean changesOnce() {
-            return this == ADD || this == UPDATE || this == COMPARE || this == RETRY;
+            return adds() || this == UPDATE || this == COMPARE || this == RETRY;
         }
     }
 }

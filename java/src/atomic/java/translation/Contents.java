@@ -135,7 +135,8 @@ final class Contents {
         if (object instanceof Value.Fresh) {
             return true;
         } else if (object instanceof Value.Owned owned) {
-            if (!(owned.receiver() instanceof Value.Fresh)) {
+            boolean walks = new Cursors(services).leavesOut(services.fields().holder(owned.contents()), at);
+            if (!walks && !(owned.receiver() instanceof Value.Fresh)) {
                 new Touches(services).note(at);
                 body.emit(new Part.Access(owned.receiver(), owned.contents(), write, services.attribution().name(at)));
             }

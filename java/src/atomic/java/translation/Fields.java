@@ -115,6 +115,11 @@ public final class Fields {
         return new Value.Owned(new Value.Fresh(null), contents(java).field(), null);
     }
 
+    /** The field whose object's contents a field stands for. */
+    VariableElement holder(Field contents) {
+        return holders.get(contents);
+    }
+
     /** The functions that compare the elements of the collection whose contents a field stands for. */
     List<ExpressionTree> comparing(Field contents) {
         VariableElement java = holders.get(contents);

@@ -132,7 +132,9 @@ final class Statements extends SimpleTreeVisitor<Void, Void> {
     public Void visitIf(IfTree tree, Void nothing) {
         ExpressionTree tried = regions.tried(tree);
         if (tried == null || !regions.attempt(tree, tried, List.of())) {
-            expressions.value(tree.getCondition());
+            if (!new Questions(services, regions).isAskedAgain(tree) || !services.program().sure()) {
+                expressions.value(tree.getCondition());
+            }
             Part left = branch(tree.getThenStatement());
             body.emit(new Part.Either(left, branch(tree.getElseStatement())));
         }

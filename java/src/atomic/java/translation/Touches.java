@@ -70,13 +70,18 @@ record Touches(Services services) {
         };
     }
 
-    private static Touch.Kind kind(String name, MethodInvocationTree call) {
+    private Touch.Kind kind(String name, MethodInvocationTree call) {
         if (name.equals("get") && call.getArguments().isEmpty() || LOOKING.contains(name)) {
             return Touch.Kind.LOOK;
         }
-        return FINDING.contains(name) ? Touch.Kind.FIND : ADDING.contains(name) ? Touch.Kind.ADD
+        return FINDING.contains(name) ? Touch.Kind.FIND : ADDING.contains(name) || adds(name, call) ? Touch.Kind.ADD
             : UPDATING.contains(name) ? Touch.Kind.UPDATE
             : COMPARING.contains(name) || Attempt.isOfKey(call) ? Touch.Kind.COMPARE : Touch.Kind.CHANGE;
+    }
+
+    private boolean adds(String name, MethodInvocationTree call) {
+        return name.equals("put") && call.getMethodSelect() instanceof MemberSelectTree select
+            && new Additions(services).adds(call, Set.of(select.getExpression().toString()));
     }
 
     /** The field whose object an expression gives, or a part of that; null where this isn't known. */

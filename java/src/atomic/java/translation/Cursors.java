@@ -1,0 +1,66 @@
+package atomic.java.translation;
+
+import atomic.java.program.Families;
+import atomic.java.program.JavaClass;
+import com.sun.source.tree.ClassTree;
+import com.sun.source.tree.ExpressionTree;
+import com.sun.source.tree.MethodTree;
+import com.sun.source.tree.Tree;
+import java.util.List;
+import javax.lang.model.element.Modifier;
+import javax.lang.model.element.TypeElement;
+import javax.lang.model.element.VariableElement;
+
+/**
+ * The own fields of an iterator, such as where it stands. By the habit of Java's libraries one thread walks with an iterator,
+ * and whoever hands it to another one hands it over for good: {@code Spliterator} says so, and no iterator of
+ * {@code java.util} is safe otherwise. So a look at such a field is as good as one at a local. Nothing keeps a caller from
+ * doing otherwise: so each of them counts as a step, and only where what is certain counts it doesn't. A field that is
+ * volatile, that has a guard, that code outside touches, or that is touched with the iterator's own monitor held, says that
+ * several threads walk.
+ */
+record Cursors(Services services) {
+    private static final List<String> WALKS = List.of("java.util.Iterator", "java.util.Enumeration", "java.util.Spliterator");
+
+    /** Whether to touch a field, or what it holds, is no step, where only what is certain counts; where it is one, a hint. */
+    boolean leavesOut(VariableElement field, Tree at) {
+        boolean own = field != null && isOwn(field);
+        if (own) {
+            services.hint(at, "own field: one thread alone walks with an iterator, as a rule, so that nobody else touches "
+                + field.getSimpleName() + "; it counts as a step all the same");
+        }
+        return own && services.program().sure();
+    }
+
+    private boolean isOwn(VariableElement field) {
+        return field.getKind().isField() && !Families.isStatic(field) && !field.getModifiers().contains(Modifier.VOLATILE)
+            && field.getEnclosingElement() instanceof TypeElement owner && walks(owner)
+            && !services.fields().guards().isNamed(field) && !services.uses().isReflected(field)
+            && services.uses().of(field).stream().allMatch(use -> isWithin(use, owner));
+    }
+
+    /** Whether a class is an iterator, or what iterators alone are made of: an abstract one of which each heir is one. */
+    private boolean walks(TypeElement owner) {
+        if (WALKS.stream().map(services.attribution().elements()::getTypeElement).anyMatch(each -> isBelow(owner, each))) {
+            return true;
+        }
+        List<TypeElement> heirs = services.program().classes().stream().map(JavaClass::symbol)
+            .filter(each -> services.attribution().types().asElement(each.getSuperclass()) == owner).toList();
+        return owner.getModifiers().contains(Modifier.ABSTRACT) && !heirs.isEmpty() && heirs.stream().allMatch(this::walks);
+    }
+
+    private boolean isBelow(TypeElement owner, TypeElement above) {
+        var types = services.attribution().types();
+        return above != null && types.isSubtype(types.erasure(owner.asType()), types.erasure(above.asType()));
+    }
+
+    /** Whether a use of a field is the iterator's own, of this object, and holds no monitor of it. */
+    private boolean isWithin(Tree use, TypeElement owner) {
+        Tree each = use;
+        while (each != null && !(each instanceof ClassTree)) {
+            each = services.attribution().parent(each);
+        }
+        return each != null && services.attribution().element(each) == owner && use instanceof ExpressionTree name
+            && new Tests(services).isOwn(name) && !(services.stable().region(use) instanceof MethodTree);
+    }
+}

@@ -1,0 +1,67 @@
+package atomic.java.translation;
+
+import atomic.java.ownership.Uses;
+import atomic.java.program.Touch;
+import com.sun.source.tree.AssignmentTree;
+import com.sun.source.tree.BinaryTree;
+import com.sun.source.tree.ExpressionTree;
+import com.sun.source.tree.LambdaExpressionTree;
+import com.sun.source.tree.MethodTree;
+import com.sun.source.tree.Tree;
+import com.sun.source.tree.VariableTree;
+import java.util.List;
+import javax.lang.model.element.VariableElement;
+
+/**
+ * Fields whose object is made where it is wanted first, and which others at most set to null, without a look at the object
+ * that was there. Such a field is like a map with one entry: to look at it finds the object or none, to make the object adds
+ * what isn't there, and to set it to null takes it out. What is done with an object that was taken out meanwhile is as if it
+ * had been done before. Where who takes it out looks at it, as one that drains or swaps does, it isn't: then the field is none
+ * of these.
+ */
+record Lazies(Services services) {
+
+    /** Notes of a look at such a field, or of a change, what it does. */
+    void note(VariableElement field, boolean write, Tree at) {
+        if (isLazy(field) && !(write && isNull(services.attribution().parent(at)))) {
+            services.program().touches().put(services.attribution().name(at),
+                new Touch(field, write ? Touch.Kind.MAKE : Touch.Kind.FIND, ""));
+        }
+    }
+
+    private boolean isLazy(VariableElement field) {
+        if (field.asType().getKind().isPrimitive() || !services.stable().isHidden(field)) {
+            return false;
+        }
+        List<Uses.Assignment> all = services.uses().assignments(field);
+        return all.stream().allMatch(each -> isNull(each.value()) ? each.tree() instanceof VariableTree || isDropped(field, each)
+                : !(each.tree() instanceof VariableTree) && each.value() != null
+                    && new Additions(services).isUnset(each.tree(), field))
+            && all.stream().anyMatch(each -> !isNull(each.value()));
+    }
+
+    private static boolean isNull(Tree value) {
+        Tree bare = value instanceof ExpressionTree written ? Uses.bare(written) : value;
+        return bare != null && (bare.getKind() == Tree.Kind.NULL_LITERAL
+            || bare instanceof AssignmentTree assignment && isNull(assignment.getExpression()));
+    }
+
+    /** Whether a method that sets a field to null doesn't look at the object that it has. */
+    private boolean isDropped(VariableElement field, Uses.Assignment assignment) {
+        Tree method = method(assignment.tree());
+        return services.uses().of(field).stream().filter(use -> method(use) == method).allMatch(use ->
+            services.uses().isTarget(use) || isCompared(services.attribution().parent(use)));
+    }
+
+    private static boolean isCompared(Tree tree) {
+        return tree instanceof BinaryTree compared && compared.getRightOperand().getKind() == Tree.Kind.NULL_LITERAL;
+    }
+
+    private Tree method(Tree tree) {
+        Tree each = tree;
+        while (each != null && !(each instanceof MethodTree) && !(each instanceof LambdaExpressionTree)) {
+            each = services.attribution().parent(each);
+        }
+        return each;
+    }
+}
