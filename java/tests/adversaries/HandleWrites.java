@@ -21,3 +21,19 @@ class HandleWrites {
         return v + v;
     }
 }
+
+class HandleByAnyName {
+    private int v;
+
+    static VarHandle named(String name) throws ReflectiveOperationException {
+        return MethodHandles.lookup().findVarHandle(HandleByAnyName.class, name, int.class);
+    }
+
+    static VarHandle ofV() throws ReflectiveOperationException {
+        return named("v");
+    }
+
+    /* atomic */ int f() { // refused: the name may be any
+        return v + v;
+    }
+}

@@ -1,5 +1,7 @@
 // What a turn before the last one saw is no longer so when the wait is over, and others can tell how many turns there were.
 // judged with: --infer
+import java.util.*;
+
 class WaitKeeps {
     private boolean full;
     private int value;
@@ -46,6 +48,51 @@ class WaitKeeps {
             }
             wait();
         }
+    }
+
+    /* atomic */ synchronized int countInArray() throws InterruptedException { // refused: an array keeps it too
+        int[] turns = new int[1];
+        while (!full) {
+            turns[0]++;
+            wait();
+        }
+        return turns[0];
+    }
+
+    /* atomic */ synchronized int listed() throws InterruptedException { // refused: so does a list
+        List<Integer> seen = new ArrayList<>();
+        while (!full) {
+            seen.add(value);
+            wait();
+        }
+        return seen.size();
+    }
+
+    /* atomic */ synchronized int countInObject() throws InterruptedException { // refused: so does an object
+        Turns turns = new Turns();
+        while (!full) {
+            turns.count();
+            wait();
+        }
+        return turns.number;
+    }
+
+    private static class Turns {
+        int number;
+
+        void count() {
+            number++;
+        }
+    }
+
+    /* atomic */ synchronized int asked(String text) throws InterruptedException { // accepted: a text keeps nothing
+        while (!full) {
+            if (text.isEmpty()) {
+                return 0;
+            }
+            wait();
+        }
+        return text.length();
     }
 
     /* atomic */ synchronized int fresh() throws InterruptedException { // accepted

@@ -36,12 +36,12 @@ public class HandleStock {
         return new HandleStock(n, first);
     }
 
-    public synchronized Handle obtain() throws InterruptedException { // refused: certain: the handles are the own ones of the stock, which is not seen
+    public synchronized Handle obtain() throws InterruptedException { // refused: alarm: the handles are the own ones of the stock, which is not seen
         while (free == 0) wait();
         return lend();
     }
 
-    public synchronized Handle obtainNow() { // refused: certain: the handles are the own ones of the stock, which is not seen
+    public synchronized Handle obtainNow() { // refused: alarm: the handles are the own ones of the stock, which is not seen
         return free == 0 ? null : lend();
     }
 

@@ -11,7 +11,7 @@ public class LinePad implements Cloneable {
     private int len;
     private int edits;
 
-    public static LinePad of(String s) { // refused: certain: the pad is new, and append gives it back, which is not seen
+    public static LinePad of(String s) { // accepted
         synchronized (LinePad.class) {
             pads++;
         }

@@ -81,8 +81,13 @@ final class Certainty {
             Integer.parseInt(parts.group(3))) : new Place("", 0, 0);
     }
 
+    /** Whether an error is told as one that may be a wrong alarm. */
+    static boolean isDoubted(List<String> block) {
+        return block.stream().anyMatch(each -> each.endsWith(DOUBT) || each.endsWith(UNSEEN));
+    }
+
     /** Each error with the lines behind it, by what it says without what was found. */
-    private static Map<String, List<String>> blocks(List<String> lines) {
+    static Map<String, List<String>> blocks(List<String> lines) {
         Map<String, List<String>> blocks = new LinkedHashMap<>();
         List<String> current = new ArrayList<>();
         for (String line : lines) {

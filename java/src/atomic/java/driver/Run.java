@@ -77,6 +77,7 @@ public final class Run {
             certain = certain == null && approximates ? certain(attribution, checker) : certain;
             errors = lines(judging, certain == null ? judging : certain);
         }
+        errors = new Inherited(program, methods.judged()).told(errors);
         program.notes().reveal(Certainty.doubted(errors));
         if (!options.quiet()) {
             program.notes().lines().forEach(line -> answer.append(line).append('\n'));

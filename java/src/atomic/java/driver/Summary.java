@@ -4,8 +4,10 @@ import atomic.java.places.Notes;
 import atomic.java.program.JavaMethod;
 import atomic.java.skeleton.Method;
 import atomic.java.translation.Methods;
+import java.util.ArrayList;
 import java.util.HashMap;
 import java.util.HashSet;
+import java.util.List;
 import java.util.Map;
 import java.util.Set;
 import java.util.function.Predicate;
@@ -17,14 +19,14 @@ final class Summary {
 
     private final Notes notes;
     private final Methods all;
-    private final Map<JavaMethod, Method> methods = new HashMap<>();
+    private final Map<JavaMethod, List<Method>> methods = new HashMap<>();
 
     Summary(Notes notes, Methods all) {
         this.notes = notes;
         this.all = all;
         all.judged().forEach((method, java) -> {
             if (!java.isConstructor()) {
-                methods.put(java, method);
+                methods.computeIfAbsent(java, key -> new ArrayList<>()).add(method);
             }
         });
     }
@@ -37,8 +39,8 @@ final class Summary {
         Set<Object> refused = origins(each -> each.atomic() && !ATOMIC.contains(judging.found(each)));
         Set<Object> errors = origins(each -> judging.found(each).equals("error"));
         errors.addAll(refused);
-        long atomic = methods.entrySet().stream().filter(each -> ATOMIC.contains(judging.found(each.getValue()))
-            && !refused.contains(each.getKey())).count();
+        long atomic = methods.entrySet().stream().filter(each -> !refused.contains(each.getKey())
+            && each.getValue().stream().allMatch(one -> ATOMIC.contains(judging.found(one)))).count();
         return methods.size() + " methods: " + (methods.size() - approximated - assumed) + " exact, " + assumed
             + " assumed, " + approximated + " approximated; " + promised + " promise to be atomic: " + (promised
             - refused.size()) + " are, " + refused.size() + " refused; " + atomic + " found atomic, " + errors.size()

@@ -56,7 +56,12 @@ public final class Escape {
     private final Uses uses;
     private final Selves selves;
     private final Results results;
+    private final Implied implied;
     private final AtOnce atOnce;
+    /** The one for which an object gets away too where it is given back; this one itself where that counts here. */
+    private final Escape whole;
+    /** The one for which an object that is only given back stays. */
+    private final Escape within;
     private final Set<Element> visited = new HashSet<>();
     private final Map<Element, Long> throughs = new HashMap<>();
     private Predicate<Tree> isHandedOn = tree -> false;
@@ -68,12 +73,39 @@ public final class Escape {
         attribution = program.attribution();
         selves = new Selves(program, uses, this);
         results = new Results(attribution);
+        implied = new Implied(program, this);
         atOnce = new AtOnce(program, this);
+        whole = this;
+        within = new Escape(this);
+    }
+
+    private Escape(Escape whole) {
+        this.whole = whole;
+        program = whole.program;
+        uses = whole.uses;
+        attribution = whole.attribution;
+        selves = whole.selves;
+        results = whole.results;
+        implied = whole.implied;
+        atOnce = whole.atOnce;
+        within = this;
     }
 
     /** Which functions are given to a method at hand that only calls them. */
     void helpersCall(Predicate<Tree> functions) {
         isHandedOn = functions;
+        within.isHandedOn = functions;
+    }
+
+    /** What was found so far may rest on a guess of what methods do, and is to be found anew. */
+    void forget() {
+        throughs.clear();
+        within.throughs.clear();
+    }
+
+    /** From which offset on the object may be known to others than the method's caller, to whom it may be given back. */
+    long within(Tree use) {
+        return within.from(use);
     }
 
     /** Where {@code this} gets away in a method. */
@@ -98,7 +130,7 @@ public final class Escape {
         } else if (parent instanceof VariableTree variable) {
             return isOwnField(attribution.element(variable), use) ? NEVER : through(attribution.element(variable));
         } else if (parent instanceof ReturnTree) {
-            return attribution.end(parent);
+            return this == whole ? attribution.end(parent) : NEVER;
         } else if (parent instanceof MemberReferenceTree reference) {
             return asReference(reference);
         } else if (parent instanceof ConditionalExpressionTree condition) {
@@ -106,8 +138,9 @@ public final class Escape {
         } else if (parent instanceof EnhancedForLoopTree loop && results.mentionsEntry(
                 attribution.element(loop.getVariable()).asType())) {
             return through(attribution.element(loop.getVariable()));
-        } else if (parent instanceof EnhancedForLoopTree || parent instanceof ArrayAccessTree
-                || parent instanceof BinaryTree || parent instanceof InstanceOfTree instance && instance.getPattern() == null) {
+        } else if (parent instanceof EnhancedForLoopTree || parent instanceof BinaryTree) {
+            return implied.leaks(use, parent) ? attribution.start(use) : NEVER;
+        } else if (parent instanceof ArrayAccessTree || parent instanceof InstanceOfTree instance && instance.getPattern() == null) {
             return NEVER;
         }
         return switch (parent.getKind()) {
@@ -127,7 +160,7 @@ public final class Escape {
         }
         JavaMethod method = program.method(symbol);
         if (method != null) {
-            return selves.leaks(method) ? attribution.start(reference) : NEVER;
+            return selves.leaks(method) || selves.gives(method) ? attribution.start(reference) : NEVER;
         }
         Choice choice = program.library().choose(attribution.type(reference.getQualifierExpression()), Library.key(symbol));
         boolean shows = choice.kind() == Choice.Kind.VIEW || choice.kind() == Choice.Kind.PIPE
@@ -144,12 +177,15 @@ public final class Escape {
         }
         JavaMethod method = program.method(symbol);
         if (method != null) {
-            return selves.leaks(method) ? attribution.start(call) : NEVER;
+            return selves.leaks(method) ? attribution.start(call) : selves.gives(method) ? from(call) : NEVER;
         }
         if (givesItself(symbol)) {
             return from(call);
         }
         Choice choice = choose(select, symbol);
+        if (program.find(attribution.type(select.getExpression())) != null && mayKeep(choice)) {
+            return attribution.start(call);
+        }
         return Math.min(asEntry(call), switch (choice.kind()) {
             case VIEW, PIPE -> from(call);
             case UNKNOWN -> unknown(call);
@@ -193,7 +229,9 @@ public final class Escape {
         if (!(attribution.element(call) instanceof ExecutableElement symbol)) {
             return attribution.start(call);
         } else if (program.method(symbol) != null) {
-            return isBorrowed(symbol, call.getArguments().indexOf(use)) ? NEVER : attribution.start(call);
+            return whole.isBorrowed(symbol, call.getArguments().indexOf(use)) ? NEVER : attribution.start(call);
+        } else if (implied.leaks(use)) {
+            return attribution.start(call);
         }
         Choice choice = choose(call.getMethodSelect(), symbol);
         boolean copies = symbol.getSimpleName().toString().endsWith("All") && choice.kind() != Choice.Kind.UNKNOWN;
@@ -250,10 +288,21 @@ public final class Escape {
         if (isAccessor(symbol)) {
             return Choice.ACCESSOR;
         }
+        if (attribution.parent(select) instanceof MethodInvocationTree call && spreads(call, symbol)) {
+            return program.library().choose("java.util.Arrays", "stream");
+        }
         TypeMirror type = select instanceof MemberSelectTree member ? attribution.type(member.getExpression()) : null;
         boolean isStatic = symbol.getModifiers().contains(javax.lang.model.element.Modifier.STATIC);
         return program.library().choose(type == null || isStatic ? symbol.getEnclosingElement().asType() : type,
             Library.key(symbol));
+    }
+
+    /** Whether an array is given for all the values of a stream, which then shows its contents as {@code Arrays.stream} does. */
+    public boolean spreads(MethodInvocationTree call, ExecutableElement symbol) {
+        return symbol.isVarArgs() && symbol.getEnclosingElement().toString().startsWith("java.util.stream.")
+            && call.getArguments().size() == 1 && attribution.type(call.getArguments().get(0)) instanceof ArrayType given
+            && !(given.getComponentType().getKind().isPrimitive() && symbol.getEnclosingElement().toString()
+                .equals("java.util.stream.Stream"));
     }
 
     /** Whether a method is a record's own, which nobody wrote: it gives a part that never changes. */
@@ -289,6 +338,11 @@ public final class Escape {
         boolean local = symbol instanceof VariableElement && symbol.getKind() != ElementKind.FIELD
             && !(Uses.bare(target) instanceof ArrayAccessTree);
         return local ? through(symbol) : attribution.end(assignment);
+    }
+
+    /** Whether a parameter's object gets away in its method. */
+    boolean keeps(Element parameter) {
+        return through(parameter) != NEVER;
     }
 
     /** A second name: where the object gets away by that one. */

@@ -17,21 +17,39 @@ import com.sun.source.tree.MethodTree;
 import com.sun.source.tree.NewClassTree;
 import com.sun.source.tree.Tree;
 import com.sun.source.util.TreeScanner;
+import java.util.ArrayList;
 import java.util.HashMap;
+import java.util.LinkedHashSet;
+import java.util.List;
 import java.util.Map;
+import java.util.Set;
+import java.util.function.Predicate;
 import java.util.function.UnaryOperator;
 import javax.lang.model.element.Element;
 import javax.lang.model.element.ElementKind;
 import javax.lang.model.element.ExecutableElement;
 import javax.lang.model.element.Modifier;
 
-/** Where a method lets its own object get away, so that other threads may reach it from then on. */
+/**
+ * Where a method lets its own object get away, so that other threads may reach it from then on. To give it back to the caller
+ * is no such place: what becomes of it then is seen where the method is called.
+ */
 public final class Selves {
+
+    /** From which offset on others may know the object, and whether the method may give it back. */
+    private record Fate(long from, boolean given) {
+        static final Fate KEPT = new Fate(Escape.NEVER, false);
+    }
+
     private final Program program;
     private final Attribution attribution;
     private final Escape escape;
     private final Uses uses;
-    private final Map<JavaMethod, Long> known = new HashMap<>();
+    private final Map<JavaMethod, Fate> known = new HashMap<>();
+    private final Map<JavaMethod, Fate> guesses = new HashMap<>();
+    private final Set<JavaMethod> open = new LinkedHashSet<>();
+    private final List<JavaMethod> round = new ArrayList<>();
+    private boolean guessed;
     private UnaryOperator<JavaClass> containers = each -> null;
 
     Selves(Program program, Uses uses, Escape escape) {
@@ -49,29 +67,67 @@ public final class Selves {
 
     /** Whether the method, or one that overrides it, lets its object get away. */
     public boolean leaks(JavaMethod method) {
-        if (from(method) != Escape.NEVER) {
-            return true;
-        }
-        return method.isVirtual()
-            && program.overriding().of(method).stream().anyMatch(other -> from(other) != Escape.NEVER);
+        return any(method, each -> from(each) != Escape.NEVER);
+    }
+
+    /** Whether the method, or one that overrides it, may give its object back. */
+    boolean gives(JavaMethod method) {
+        return any(method, each -> fate(each).given());
+    }
+
+    private boolean any(JavaMethod method, Predicate<JavaMethod> wanted) {
+        return wanted.test(method)
+            || method.isVirtual() && program.overriding().of(method).stream().anyMatch(wanted);
     }
 
     /** The offset in the method from which on its object may be known to others. */
     public long from(JavaMethod method) {
-        Long before = known.get(method);
+        return fate(method).from();
+    }
+
+    /**
+     * What becomes of a method's object. Methods that call each other are looked at in rounds: in each the fate of one that is
+     * being looked at is that of the round before, and in the first its object stays.
+     */
+    private Fate fate(JavaMethod method) {
+        Fate before = known.get(method);
         if (before != null) {
             return before;
+        } else if (!open.add(method)) {
+            guessed = true;
+            return guesses.getOrDefault(method, Fate.KEPT);
         }
-        known.put(method, Escape.NEVER);
-        long found = Escape.NEVER;
+        boolean outermost = open.size() == 1;
+        do {
+            if (outermost) {
+                guessed = false;
+                round.clear();
+            }
+            known.put(method, look(method));
+            round.add(method);
+        } while (outermost && isToBeRepeated());
+        open.remove(method);
+        return known.get(method);
+    }
+
+    /** Whether some guess of the round wasn't what was found, which is then the guess of the next one. */
+    private boolean isToBeRepeated() {
+        boolean same = !guessed || round.stream().allMatch(each ->
+            guesses.getOrDefault(each, Fate.KEPT).equals(known.get(each)));
+        if (!same) {
+            round.forEach(each -> guesses.put(each, known.remove(each)));
+            escape.forget();
+        }
+        return !same;
+    }
+
+    private Fate look(JavaMethod method) {
+        Scanner scanner = new Scanner(method.owner());
         if (method.tree().getBody() != null) {
-            found = new Scanner(method.owner()).scan(method.tree().getBody());
+            scanner.scan(method.tree().getBody(), null);
         }
-        if (method.isConstructor()) {
-            found = Math.min(found, initialisers(method));
-        }
-        known.put(method, found);
-        return found;
+        long found = method.isConstructor() ? Math.min(scanner.found, initialisers(method)) : scanner.found;
+        return new Fate(found, scanner.given);
     }
 
     /** A field's initialiser or a block of the class that lets the object go counts for the whole constructor. */
@@ -80,7 +136,11 @@ public final class Selves {
             boolean runs = member instanceof com.sun.source.tree.VariableTree variable
                 && !variable.getModifiers().getFlags().contains(Modifier.STATIC)
                 || member instanceof com.sun.source.tree.BlockTree block && !block.isStatic();
-            if (runs && new Scanner(constructor.owner()).scan(member) != Escape.NEVER) {
+            Scanner scanner = new Scanner(constructor.owner());
+            if (runs) {
+                scanner.scan(member, null);
+            }
+            if (scanner.found != Escape.NEVER) {
                 return 0;
             }
         }
@@ -91,14 +151,18 @@ public final class Selves {
     private final class Scanner extends TreeScanner<Void, Void> {
         private final JavaClass self;
         private long found = Escape.NEVER;
+        private boolean given;
 
         Scanner(JavaClass self) {
             this.self = self;
         }
 
-        long scan(Tree body) {
-            scan(body, null);
-            return found;
+        /** A name of this object: it may get away by what is done with it, or be given back. */
+        private void use(Tree name) {
+            if (escape.within(name) != Escape.NEVER) {
+                leak(name);
+            }
+            given |= escape.from(name) != Escape.NEVER;
         }
 
         private void leak(Tree at) {
@@ -114,12 +178,10 @@ public final class Selves {
 
         @Override
         public Void visitIdentifier(IdentifierTree tree, Void nothing) {
-            if (tree.getName().contentEquals("this") && !(attribution.parent(tree) instanceof MethodInvocationTree call
-                    && call.getMethodSelect() == tree)) {
-                long from = escape.from(tree);
-                if (from != Escape.NEVER) {
-                    leak(tree);
-                }
+            boolean named = tree.getName().contentEquals("this") && !(attribution.parent(tree) instanceof MethodInvocationTree call
+                && call.getMethodSelect() == tree);
+            if (named || tree.getName().contentEquals("super") && attribution.parent(tree) instanceof MemberReferenceTree) {
+                use(tree);
             }
             itself(tree);
             return null;
@@ -127,8 +189,8 @@ public final class Selves {
 
         /** A field that may hold this object is one more name of it. */
         private void itself(Tree tree) {
-            if (uses.mayHoldItself(attribution.element(tree)) && !uses.isTarget(tree) && escape.from(tree) != Escape.NEVER) {
-                leak(tree);
+            if (uses.mayHoldItself(attribution.element(tree)) && !uses.isTarget(tree)) {
+                use(tree);
             }
         }
 
@@ -137,9 +199,9 @@ public final class Selves {
             if (uses.isThis(tree.getExpression())) {
                 itself(tree);
             }
-            if (tree.getIdentifier().contentEquals("this") && attribution.element(tree) != null
-                    && escape.from(tree) != Escape.NEVER) {
-                leak(tree);
+            boolean named = tree.getIdentifier().contentEquals("this") && attribution.element(tree) != null;
+            if (named || tree.getIdentifier().contentEquals("super") && attribution.parent(tree) instanceof MemberReferenceTree) {
+                use(tree);
             }
             return super.visitMemberSelect(tree, nothing);
         }
@@ -152,6 +214,8 @@ public final class Selves {
                 JavaMethod method = program.method(symbol);
                 if (method != null && leaks(method)) {
                     leak(tree);
+                } else if (method != null && gives(method)) {
+                    use(tree);
                 } else if (method == null && symbol.getKind() == ElementKind.METHOD
                         && escape.mayKeep(escape.choose(tree.getMethodSelect(), (ExecutableElement) symbol))) {
                     leak(tree);
@@ -175,6 +239,7 @@ public final class Selves {
                     && !(containers.apply(made) == self && onlyKeeps(made)) && !(program.sure() && isPutAway(tree))) {
                 leak(tree);
             }
+            scan(tree.getEnclosingExpression(), null);
             scan(tree.getArguments(), null);
             return null;
         }
@@ -212,9 +277,11 @@ public final class Selves {
             return keeps[0];
         }
 
+        /** Whether an object of a class knows this one: it stands within the class of this one, or in one above that. */
         private boolean isWithin(JavaClass made) {
+            var types = attribution.types();
             for (JavaClass each = made.outer(); each != null; each = each.outer()) {
-                if (each == self) {
+                if (types.isSubtype(types.erasure(self.symbol().asType()), types.erasure(each.symbol().asType()))) {
                     return true;
                 }
             }

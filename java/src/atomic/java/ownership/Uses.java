@@ -47,6 +47,7 @@ public final class Uses {
     private final List<MethodInvocationTree> clones = new ArrayList<>();
     private final Map<String, Set<Element>> reflected = new HashMap<>();
     private final Map<String, Set<Tree>> around = new HashMap<>();
+    private final Set<Element> reflectedByAnyName = new HashSet<>();
     private final Attribution attribution;
 
     /** Looks through all sources. */
@@ -143,12 +144,20 @@ public final class Uses {
                     classes.add(named);
                 }
             }
+            if (tree.getArguments().stream().anyMatch(this::isComputedText)) {
+                reflectedByAnyName.addAll(classes);
+            }
             for (ExpressionTree part : parts) {
                 if (constant(part) instanceof String name) {
                     Set<Element> known = reflected.computeIfAbsent(name, key -> new HashSet<>());
                     known.addAll(classes.isEmpty() ? Collections.singleton((Element) null) : classes);
                 }
             }
+        }
+
+        /** Whether a text is computed, so that it may be any name. */
+        private boolean isComputedText(ExpressionTree part) {
+            return constant(part) == null && String.valueOf(attribution.type(part)).equals("java.lang.String");
         }
 
         private Object constant(ExpressionTree part) {
@@ -196,7 +205,7 @@ public final class Uses {
     /** Whether some code reaches a field by its name in a text, so that not all of its accesses are seen. */
     public boolean isReflected(VariableElement field) {
         Set<Element> classes = reflected.getOrDefault(field.getSimpleName().toString(), Set.of());
-        return !classes.isEmpty() && (classes.contains(null) || classes.contains(field.getEnclosingElement()));
+        return reflectedByAnyName.contains(field.getEnclosingElement()) || !classes.isEmpty() && (classes.contains(null) || classes.contains(field.getEnclosingElement()));
     }
 
     /** Whether an expression is {@code this}, or an assignment of it. */

@@ -94,9 +94,7 @@ public final class Families {
      * made of has a method of its own in its place. What {@code super} calls is a copy of it.
      */
     public boolean isAlwaysReplaced(JavaMethod method) {
-        var modifiers = method.owner().symbol().getModifiers();
-        if (!method.isVirtual() || !modifiers.contains(Modifier.ABSTRACT) || modifiers.contains(Modifier.PUBLIC)
-                || method.owner().isInterface()) {
+        if (!method.isVirtual() || !method.owner().isHiddenBase()) {
             return false;
         }
         List<JavaClass> below = below(method.owner()).stream().filter(each -> each != method.owner()

@@ -5,6 +5,7 @@ import com.sun.source.tree.ClassTree;
 import java.util.ArrayList;
 import java.util.List;
 import javax.lang.model.element.ElementKind;
+import javax.lang.model.element.Modifier;
 import javax.lang.model.element.TypeElement;
 
 /** A class, interface, enum or record of the sources, with the skeleton's class that stands for it. */
@@ -52,6 +53,12 @@ public final class JavaClass {
 
     public boolean isInterface() {
         return symbol.getKind() == ElementKind.INTERFACE;
+    }
+
+    /** Whether it is there for the classes below it alone: it is abstract, and not public. */
+    public boolean isHiddenBase() {
+        return symbol.getKind() == ElementKind.CLASS && symbol.getModifiers().contains(Modifier.ABSTRACT)
+            && !symbol.getModifiers().contains(Modifier.PUBLIC);
     }
 
     @Override

@@ -238,6 +238,7 @@ final class Accesses {
             read(variable, receiver, target);
         }
         Value result = expressions.value(value);
+        start(variable, target);
         write(variable, receiver, target);
         return result;
     }

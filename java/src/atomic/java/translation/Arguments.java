@@ -1,6 +1,7 @@
 package atomic.java.translation;
 
 import atomic.java.library.Choice;
+import atomic.java.places.Notes;
 import atomic.java.skeleton.Method;
 import atomic.java.skeleton.Value;
 import com.sun.source.tree.ExpressionTree;
@@ -84,6 +85,10 @@ final class Arguments {
      * element: {@code new HashSet<>(vector)}.
      */
     private void lookAtSafe(TypeMirror type, LibraryCalls.Called called) {
+        if (type.toString().equals("java.lang.CharSequence")) {
+            text(called);
+            return;
+        }
         boolean map = isBelow(type, "java.util.Map");
         if (!map && !isBelow(type, "java.util.Collection") || services.program().find(type) != null) {
             return;
@@ -97,6 +102,16 @@ final class Arguments {
             body.emit(services.doubt(Method.Doubt.OPEN, called.shown(), true, body, called.at(),
                 "compound library call: " + called.shown()
                     + " looks at many elements of its argument, one after the other"));
+        }
+    }
+
+    /** A text of any kind may change meanwhile: that nobody changes it is told. */
+    private void text(LibraryCalls.Called called) {
+        if (services.program().options().strict()) {
+            body.emit(services.doubt(Method.Doubt.OPEN, called.shown(), true, body, called.at(), "unknown call: the text that "
+                + called.shown() + " is given may be changed meanwhile"));
+        } else if (!Comparisons.joins(called.shown())) {
+            services.tell(Notes.Kind.ASSUMED, body, called.at(), "nobody changes the text that " + called.shown() + " is given");
         }
     }
 

@@ -252,6 +252,7 @@ final class Calls {
         Element qualifier = services.attribution().element(Uses.bare(tree.getQualifierExpression()));
         boolean isType = qualifier == null || qualifier.getKind().isClass() || qualifier.getKind().isInterface();
         if (method != null && method.isConstructor()) {
+            new Initialisers(services).start(method.owner(), body, tree);
             emit(services.methods().of(method), new Value.Fresh(null), List.of(new Value.Named(body.statics())), tree);
         } else if (method != null) {
             Value receiver = isType ? any(method, tree) : expressions.value(tree.getQualifierExpression());

@@ -25,6 +25,7 @@ import javax.lang.model.type.ArrayType;
 import javax.lang.model.type.DeclaredType;
 import javax.lang.model.type.TypeKind;
 import javax.lang.model.type.TypeMirror;
+import javax.lang.model.type.WildcardType;
 
 /**
  * What collections call of their elements and keys: {@code equals}, {@code hashCode}, {@code compareTo}. Those of classes at
@@ -171,12 +172,23 @@ final class Comparisons {
             each.symbol().getSimpleName().contentEquals(name));
         boolean begun = written || !inside.add(known);
         for (var part : begun ? List.<RecordComponentElement>of() : known.symbol().getRecordComponents()) {
-            JavaClass type = services.program().find(part.asType());
-            if (type != null) {
-                own(type, Set.of(name), at);
-            }
+            within(part.asType()).forEach(type -> own(type, Set.of(name), at));
         }
         inside.remove(begun ? null : known);
+    }
+
+    /** The class at hand that a type is, or those that it has as its parts: a list's text is that of its elements. */
+    private Set<JavaClass> within(TypeMirror type) {
+        JavaClass known = services.program().find(type);
+        Set<JavaClass> found = new LinkedHashSet<>();
+        if (known != null) {
+            found.add(known);
+        } else if (type instanceof DeclaredType declared) {
+            declared.getTypeArguments().forEach(each -> found.addAll(within(each)));
+        } else if (type instanceof WildcardType wildcard && wildcard.getExtendsBound() != null) {
+            found.addAll(within(wildcard.getExtendsBound()));
+        }
+        return found;
     }
 
     private static boolean isFunction(JavaClass known) {

@@ -11,8 +11,11 @@ import com.sun.source.tree.MethodInvocationTree;
 import com.sun.source.tree.MethodTree;
 import com.sun.source.tree.Tree;
 import com.sun.source.tree.VariableTree;
+import java.util.LinkedHashSet;
 import java.util.List;
+import java.util.Set;
 import javax.lang.model.element.Modifier;
+import javax.lang.model.type.TypeMirror;
 
 /** What runs before a constructor's own statements, and when a class is first used. */
 final class Initialisers {
@@ -51,7 +54,7 @@ final class Initialisers {
 
     /** A use of a class may be the first one, which runs what its static initialisers do besides setting its own fields. */
     void start(JavaClass each, Body body, Tree at) {
-        for (JavaClass used = each; used != null; used = services.families().above(used)) {
+        for (JavaClass used : begun(each)) {
             boolean begun = used == body.self() || used == body.starting()
                 || services.families().isBelow(body.self(), used);
             if (!begun && hasStaticCode(used)) {
@@ -59,6 +62,30 @@ final class Initialisers {
                 Value statics = new Value.Named(body.statics());
                 body.emit(new Part.Either(new Part.Call(statics, target, List.of(), services.attribution().name(at)),
                     Part.NOTHING));
+            }
+        }
+    }
+
+    /** A class, those above it, and the interfaces of all of them that have code of their own to inherit. */
+    private Set<JavaClass> begun(JavaClass each) {
+        Set<JavaClass> all = new LinkedHashSet<>();
+        for (JavaClass used = each; used != null; used = services.families().above(used)) {
+            all.add(used);
+            if (!each.isInterface()) {
+                interfaces(used, all);
+            }
+        }
+        return all;
+    }
+
+    private void interfaces(JavaClass each, Set<JavaClass> all) {
+        for (TypeMirror type : each.symbol().getInterfaces()) {
+            JavaClass above = services.program().find(type);
+            if (above != null) {
+                if (above.methods().stream().anyMatch(method -> method.isVirtual() && !method.isAbstract())) {
+                    all.add(above);
+                }
+                interfaces(above, all);
             }
         }
     }

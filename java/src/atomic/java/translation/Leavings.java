@@ -8,10 +8,11 @@ import com.sun.source.tree.IfTree;
 import com.sun.source.tree.LabeledStatementTree;
 import com.sun.source.tree.StatementTree;
 import com.sun.source.tree.Tree;
+import java.util.ArrayList;
 import java.util.Collections;
 import java.util.HashMap;
-import java.util.HashSet;
 import java.util.IdentityHashMap;
+import java.util.LinkedHashMap;
 import java.util.List;
 import java.util.Map;
 import java.util.Set;
@@ -66,18 +67,27 @@ final class Leavings {
         return taken.contains(part) ? Part.NOTHING : part.map(each -> without(each, taken));
     }
 
-    /** Whether what is done behind a loop names no local of a turn. */
-    static boolean areApart(Part turn, List<Part> last) {
-        Set<Path.Root> declared = new HashSet<>();
-        if (!last.isEmpty()) {
-            declared(turn, declared);
-        }
-        return last.stream().noneMatch(each -> names(each, declared));
+    /** What is done behind a loop, each part with the locals of a turn that it names: there they name what they did in the last one. */
+    static List<Part> behind(Part turn, List<Part> last) {
+        Map<Path.Root, Part> declared = new LinkedHashMap<>();
+        declared(turn, declared);
+        return last.stream().map(part -> {
+            List<Part> all = new ArrayList<>();
+            declared.forEach((local, declaration) -> {
+                if (names(part, Set.of(local))) {
+                    all.add(declaration);
+                }
+            });
+            all.add(part);
+            return Part.sequence(all);
+        }).toList();
     }
 
-    private static void declared(Part part, Set<Path.Root> found) {
+    /** The locals that a part declares; one that is another name of a local of the same part names nothing elsewhere. */
+    private static void declared(Part part, Map<Path.Root, Part> found) {
         if (part instanceof Part.Local local) {
-            found.add(local.variable());
+            boolean kept = local.value() != null && local.value().root().kind() != Path.Kind.LOCAL;
+            found.put(local.variable(), kept ? local : new Part.Local(local.variable(), null));
         }
         part.parts().forEach(each -> declared(each, found));
     }

@@ -75,7 +75,8 @@ final class LibraryCalls {
             new Contents(services, body).copy(object, tree, before + ".clone");
             return new Value.Fresh(null);
         }
-        Choice choice = choose(before, symbol, isStatic);
+        Choice choice = services.ownership().escape().spreads(tree, symbol)
+            ? services.ownership().escape().choose(tree.getMethodSelect(), symbol) : choose(before, symbol, isStatic);
         List<Value> values = new ArrayList<>();
         body.over(choice.kind() == Choice.Kind.RUN ? object : body.element(), () ->
             values.addAll(values(tree.getArguments(), choice)));
@@ -391,6 +392,7 @@ final class LibraryCalls {
                 new Contents(services, body).call(object, false, part, called.shown());
             }
         } else {
+            new Comparisons(services, body).elements(type, called);
             steps(called);
         }
     }

@@ -51,14 +51,15 @@ public final class Methods {
     public Methods(Program program) {
         services = new Services(program, this);
         families = services.families();
-        promises = new Promises(program);
+        promises = new Promises(program, families);
     }
 
     /** Writes the whole skeleton. */
     public void translate() {
         for (JavaClass each : services.program().classes()) {
             for (JavaMethod method : List.copyOf(each.methods())) {
-                of(method);
+                of(method, method.owner(), method.isConstructor() || method.readsNewObject());
+                promises.apart(method).forEach(heir -> of(method, heir, false));
             }
         }
         while (!waiting.isEmpty() || !last.isEmpty()) {
@@ -92,7 +93,7 @@ public final class Methods {
 
     /** Whether a Java method says that it is atomic. */
     public boolean promises(JavaMethod method) {
-        return method != null && promises.isAtomic(method, families);
+        return method != null && (promises.isAtomic(method) || !promises.apart(method).isEmpty());
     }
 
     /** Whether some field says which lock guards it. */
@@ -146,9 +147,9 @@ public final class Methods {
         waiting.add(work);
     }
 
-    /** The method that stands for a Java method as its own class has it. */
+    /** The method that stands for a Java method as its own class has it, and as it is called. */
     Method of(JavaMethod method) {
-        return of(method, method.owner(), method.isConstructor() || method.readsNewObject());
+        return of(method, method.owner(), method.isConstructor());
     }
 
     /** The method for objects of class {@code self}, which may be new ones that nobody else knows. */
@@ -187,22 +188,35 @@ public final class Methods {
         JavaClass container = services.nodes().container(key.self());
         Shape home = method.isStatic() ? services.program().statics() : (container == null ? key.self() : container).shape();
         boolean own = !key.fresh() && key.self() == method.owner();
+        boolean inherited = isInherited(key);
         Place place = method.place();
-        Method made = new Method(home, name(key, own, container), place);
+        Method made = new Method(home, inherited ? inherited(key) : name(key, own, container), place);
         made.parameters().addAll(parameters(method, home));
         home.methods().add(made);
         origins.put(made, method);
-        boolean bySuper = key.self() != method.owner() && !method.owner().isInterface();
+        boolean bySuper = key.self() != method.owner() && !method.owner().isInterface() && !inherited;
         boolean known = !method.isOpen() || method.isForHeirs() && !services.program().options().strict();
         made.closed(known || key.fresh() || container != null || bySuper);
         made.wrapped(services.ownership().isWrapped(method.owner()));
-        if (own || method.isConstructor() || method.readsNewObject()) {
+        if (own && promises.apart(method).isEmpty() || inherited || method.isConstructor() || method.readsNewObject()) {
             judged.put(made, method);
         }
         if (own && !method.isStatic() && container == null) {
             families.overridden(method).forEach(above -> made.overridden().add(of(above)));
         }
         return made;
+    }
+
+    /** Whether a method is judged as that of a class which has it from its hidden base. */
+    private boolean isInherited(Key key) {
+        return !key.fresh() && promises.apart(key.method()).contains(key.self());
+    }
+
+    /** The name of such a method: it is told in that of the class. */
+    private String inherited(Key key) {
+        String java = key.method().symbol().getSimpleName().toString();
+        return services.program().names().invent(java + "_of_heir",
+            "=" + services.program().names().shown(key.self().shape().name()) + "." + java);
     }
 
     private String name(Key key, boolean own, JavaClass container) {
@@ -241,8 +255,8 @@ public final class Methods {
         Body body = new Body(services, target, new Body.Owner(key.self(), me, method), freshUntil);
         require(method, body);
         write(key, target, body);
-        if (promises.isAtomic(method, families)) {
-            promise(target, promises.isAtomic(families.root(method), families));
+        if (judged.containsKey(target) && promises(method)) {
+            promise(target, promises.isAtomic(families.root(method)));
         }
     }
 

@@ -254,14 +254,11 @@ final class Statements extends SimpleTreeVisitor<Void, Void> {
         List<Part> last = new ArrayList<>();
         Part whole = body.collect(() -> body.leavings().within(tree, last, turn));
         Part part = Leavings.without(whole, last);
-        if (!Leavings.areApart(part, last)) {
-            last.clear();
-            part = whole;
-        }
+        List<Part> behind = Leavings.behind(part, last);
         body.emit(once ? new Part.Either(part, Part.NOTHING)
             : new Part.Repeat(part, services.attribution().place(tree)));
-        if (!last.isEmpty()) {
-            body.emit(new Part.Either(Dispatch.either(last), Part.NOTHING));
+        if (!behind.isEmpty()) {
+            body.emit(new Part.Either(Dispatch.either(behind), Part.NOTHING));
         }
     }
 

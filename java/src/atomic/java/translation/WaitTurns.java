@@ -1,6 +1,8 @@
 package atomic.java.translation;
 
+import atomic.java.library.Choice;
 import atomic.java.ownership.Uses;
+import com.sun.source.tree.ArrayAccessTree;
 import com.sun.source.tree.AssignmentTree;
 import com.sun.source.tree.CatchTree;
 import com.sun.source.tree.ClassTree;
@@ -12,6 +14,7 @@ import com.sun.source.tree.ForLoopTree;
 import com.sun.source.tree.IdentifierTree;
 import com.sun.source.tree.IfTree;
 import com.sun.source.tree.LambdaExpressionTree;
+import com.sun.source.tree.MemberSelectTree;
 import com.sun.source.tree.MethodInvocationTree;
 import com.sun.source.tree.MethodTree;
 import com.sun.source.tree.ReturnTree;
@@ -29,6 +32,7 @@ import java.util.Set;
 import java.util.stream.Stream;
 import javax.lang.model.element.Element;
 import javax.lang.model.element.ElementKind;
+import javax.lang.model.element.ExecutableElement;
 import javax.lang.model.element.VariableElement;
 
 /**
@@ -168,8 +172,36 @@ record WaitTurns(Services services) {
             return super.visitUnary(tree, nothing);
         }
 
+        /** An array or another object in a local may be given something to keep by a call. */
+        @Override
+        public Void visitMethodInvocation(MethodInvocationTree call, Void nothing) {
+            if (call != wait && !looks(call)) {
+                Stream.concat(call.getArguments().stream(), call.getMethodSelect() instanceof MemberSelectTree select
+                    ? Stream.of(select.getExpression()) : Stream.empty()).filter(each ->
+                        services.families().shape(services.attribution().type(each)) != null).forEach(this::keep);
+            }
+            return super.visitMethodInvocation(call, nothing);
+        }
+
+        private boolean looks(MethodInvocationTree call) {
+            if (!(services.attribution().element(call) instanceof ExecutableElement symbol)
+                    || services.program().method(symbol) != null) {
+                return false;
+            }
+            Choice choice = services.ownership().escape().choose(call.getMethodSelect(), symbol);
+            return !choice.fills() && switch (choice.kind()) {
+                case PURE, ASSUMED, READS, VIEW -> true;
+                default -> false;
+            };
+        }
+
         private void keep(ExpressionTree target) {
-            if (Uses.bare(target) instanceof IdentifierTree name && services.attribution().element(name)
+            ExpressionTree bare = Uses.bare(target);
+            while (bare instanceof ArrayAccessTree || bare instanceof MemberSelectTree) {
+                bare = Uses.bare(bare instanceof ArrayAccessTree element ? element.getExpression()
+                    : ((MemberSelectTree) bare).getExpression());
+            }
+            if (bare instanceof IdentifierTree name && services.attribution().element(name)
                     instanceof VariableElement local && local.getKind() != ElementKind.FIELD && !own.contains(local)) {
                 kept.add(local);
             }
