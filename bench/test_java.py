@@ -11,6 +11,7 @@ reasons      each reason for which an error is told as certain, and what looks l
 summaries    sources whose first line has the line of figures that comes (java/tests/summaries)
 pieces       a source whose skeleton is too long for one text
 own          the sources of atomic-java itself: some 15 texts, and few methods past a limit
+growth       families of sources (java_families.py), each at a size and at four times that: the time grows with the size
 
 The exit status is 0 where all hold. Without a name all are tried.
 """
@@ -21,6 +22,7 @@ import tempfile
 from dataclasses import dataclass, field
 from pathlib import Path
 
+from java_families import FAMILIES, seconds
 from java_mutants import Mutant, mutants
 from java_sources import PROGRAM, TOP, Answer, Line, batches, marks, run, write_into_package
 
@@ -29,6 +31,11 @@ OPTIONS = re.compile(r"^// judged with: (.*)$", re.MULTILINE)
 RACE = "data race"
 DOUBT = "this may be a wrong alarm"
 FEW_LIMITS = 3
+GROWTH = {"chain": 600, "named": 500, "region": 600, "loops": 20}
+TIMES = 4
+MOST_TIMES = 7
+LEAST_SECONDS = 0.25
+MOST_SECONDS = 25
 
 
 @dataclass
@@ -159,6 +166,23 @@ class Tester:
         for line in limits if len(limits) > FEW_LIMITS else []:
             self.tell(f"{line.file}:{line.line}: {line.text}")
 
+    def growth(self) -> None:
+        """A source four times as long takes some four times as long. With the square of its length it takes sixteen
+        times, and where loops in each other are written twice each, it never ends."""
+        options = ["--public", "--infer"]
+        empty = seconds("class A { }\n", options, MOST_SECONDS, self.program) or 0.0
+        for name, size in GROWTH.items():
+            self.count += 1
+            small = seconds(FAMILIES[name](size), options, MOST_SECONDS, self.program)
+            large = seconds(FAMILIES[name](TIMES * size), options, MOST_SECONDS, self.program)
+            if small is None or large is None:
+                self.tell(f"{name}: size {TIMES * size} takes more than {MOST_SECONDS} s")
+            elif large - empty > MOST_TIMES * max(small - empty, LEAST_SECONDS):
+                self.tell(
+                    f"{name}: {small - empty:.1f} s more than an empty class at size {size}, {large - empty:.1f} s at "
+                    f"{TIMES * size}"
+                )
+
     def is_new(self, path: Path, line: Line) -> bool:
         """Whether a line is a data race that the source itself hasn't."""
         return RACE in line.text and (path.name, line.line, line.text) not in self.races
@@ -198,7 +222,7 @@ class Tester:
 
 def main() -> None:
     """Tries the tests that are named."""
-    names = ["adversaries", "users", "reasons", "larger", "summaries", "pieces", "own", "mutants"]
+    names = ["adversaries", "users", "reasons", "larger", "summaries", "pieces", "own", "growth", "mutants"]
     parser = argparse.ArgumentParser(description=__doc__, formatter_class=argparse.RawDescriptionHelpFormatter)
     parser.add_argument("tests", nargs="*", metavar="TEST", help=f"what is tried: {', '.join(names)}")
     parser.add_argument("--program", type=Path, default=PROGRAM, help="the launcher (default: java/out/atomic-java)")

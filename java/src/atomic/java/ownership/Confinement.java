@@ -186,7 +186,8 @@ final class Confinement {
 
     /** Whether a call of a method runs that one, and not one in its place. */
     private boolean runsItself(JavaMethod method) {
-        return !method.isVirtual() || program.overriding().of(method).isEmpty() && !program.overriding().overridesAny(method);
+        return !method.isVirtual() || !program.overriding().isOverridden(method)
+            && !program.overriding().overridesAny(method);
     }
 
     /** Whether only code of the same source can call a method. Another one that nobody here calls is for others. */

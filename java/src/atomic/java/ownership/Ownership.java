@@ -284,7 +284,7 @@ public final class Ownership {
     }
 
     private boolean isOverridden(JavaMethod method) {
-        return method.isVirtual() && !program.overriding().of(method).isEmpty();
+        return method.isVirtual() && program.overriding().isOverridden(method);
     }
 
     private String findReturned(JavaMethod method) {

@@ -132,11 +132,6 @@ public final class Families {
         return program.overriding().kin(each);
     }
 
-    /** Whether another method may run in the place of one. */
-    public boolean isOverridden(JavaMethod method) {
-        return !program.overriding().of(method).isEmpty();
-    }
-
     /** How a skeleton spells the name of a method. */
     public String name(JavaMethod method) {
         JavaMethod root = root(method);

@@ -4,19 +4,21 @@ import java.util.ArrayList;
 import java.util.Comparator;
 import java.util.HashMap;
 import java.util.HashSet;
+import java.util.LinkedHashSet;
 import java.util.List;
 import java.util.Map;
 import java.util.Set;
 import java.util.stream.Stream;
 import javax.lang.model.element.Element;
+import javax.lang.model.element.Modifier;
 import javax.lang.model.element.Name;
 import javax.lang.model.type.DeclaredType;
-import javax.lang.model.type.TypeMirror;
 
 /**
  * Which classes of the sources are below which, and which methods stand in whose place. Only classes below a method's own
  * can have one in its place, so that no other method of its name is looked at: in a thousand classes with a {@code get} none
- * asks the others.
+ * asks the others. What has the place of a method is found by way of the methods that have it themselves, since javac walks
+ * over all classes between the two that it is asked about.
  */
 public final class Overriding {
     private final Program program;
@@ -24,7 +26,10 @@ public final class Overriding {
     private final Map<Element, Set<JavaClass>> above = new HashMap<>();
     private final Map<JavaClass, List<JavaClass>> below = new HashMap<>();
     private final Map<JavaClass, Map<Name, List<JavaMethod>>> named = new HashMap<>();
+    private final Map<Element, List<Element>> supers = new HashMap<>();
     private final Map<JavaMethod, List<JavaMethod>> overriders = new HashMap<>();
+    private final Set<JavaMethod> overriding = new HashSet<>();
+    private Map<JavaMethod, List<JavaMethod>> nearest;
 
     Overriding(Program program) {
         this.program = program;
@@ -43,10 +48,8 @@ public final class Overriding {
             if (program.find(symbol) != null) {
                 found.add(program.find(symbol));
             }
-            for (TypeMirror each : program.attribution().types().directSupertypes(symbol.asType())) {
-                if (each instanceof DeclaredType declared) {
-                    found.addAll(above(declared.asElement()));
-                }
+            for (Element each : supers(symbol)) {
+                found.addAll(above(each));
             }
         }
         return found;
@@ -84,17 +87,81 @@ public final class Overriding {
 
     /** The methods that may run in the place of one, which isn't among them, in the order of the sources. */
     public List<JavaMethod> of(JavaMethod method) {
-        return overriders.computeIfAbsent(method, key -> below(key.owner()).stream().filter(each -> each != key.owner())
-            .flatMap(each -> named(each, key.symbol().getSimpleName()).stream())
-            .filter(other -> overrides(other, key, other.owner()))
-            .sorted(Comparator.comparing(JavaMethod::place)).toList());
+        List<JavaMethod> known = overriders.get(method);
+        if (known == null) {
+            Set<JavaMethod> found = new LinkedHashSet<>();
+            if (handsOn(method)) {
+                collect(method, found);
+            } else {
+                below(method.owner()).stream().filter(each -> each != method.owner())
+                    .flatMap(each -> named(each, method.symbol().getSimpleName()).stream())
+                    .filter(other -> overrides(other, method, other.owner())).forEach(found::add);
+            }
+            known = found.stream().sorted(Comparator.comparing(JavaMethod::place)).toList();
+            overriders.put(method, known);
+        }
+        return known;
+    }
+
+    /** Whether some method may run in the place of one. */
+    public boolean isOverridden(JavaMethod method) {
+        return handsOn(method) ? !nearest().getOrDefault(method, List.of()).isEmpty() : !of(method).isEmpty();
     }
 
     /** Whether a method has the place of one of a class above. */
     public boolean overridesAny(JavaMethod method) {
-        return above(method.owner().symbol()).stream().filter(each -> each != method.owner())
-            .flatMap(each -> named(each, method.symbol().getSimpleName()).stream())
-            .anyMatch(other -> overrides(method, other, method.owner()));
+        nearest();
+        return overriding.contains(method);
+    }
+
+    /** Whether what has the place of a method that has the place of this one has its place too: no package is in between. */
+    private boolean handsOn(JavaMethod method) {
+        Set<Modifier> modifiers = method.symbol().getModifiers();
+        return modifiers.contains(Modifier.PUBLIC) || modifiers.contains(Modifier.PROTECTED)
+            || below(method.owner()).stream().allMatch(each -> home(each).equals(home(method.owner())));
+    }
+
+    private Element home(JavaClass each) {
+        return program.attribution().elements().getPackageOf(each.symbol());
+    }
+
+    private void collect(JavaMethod method, Set<JavaMethod> found) {
+        for (JavaMethod each : nearest().getOrDefault(method, List.of())) {
+            if (found.add(each)) {
+                collect(each, found);
+            }
+        }
+    }
+
+    /** By each method those that have its place, without those that have theirs. */
+    private Map<JavaMethod, List<JavaMethod>> nearest() {
+        if (nearest == null) {
+            nearest = new HashMap<>();
+            program.methods().stream().filter(each -> above(each.owner().symbol()).size() > 1).forEach(each ->
+                climb(each, each.owner().symbol(), new HashSet<>()));
+        }
+        return nearest;
+    }
+
+    /** Looks for the methods whose place a method has, on each way up until there is one. */
+    private void climb(JavaMethod method, Element from, Set<Element> seen) {
+        for (Element each : supers(from).stream().filter(seen::add).toList()) {
+            JavaClass known = program.find(each);
+            List<JavaMethod> found = known == null ? List.of() : named(known, method.symbol().getSimpleName()).stream()
+                .filter(other -> overrides(method, other, method.owner())).toList();
+            found.forEach(other -> nearest.computeIfAbsent(other, key -> new ArrayList<>()).add(method));
+            if (!found.isEmpty()) {
+                overriding.add(method);
+            } else if (!above(each).isEmpty()) {
+                climb(method, each, seen);
+            }
+        }
+    }
+
+    /** The classes that a class extends itself. */
+    private List<Element> supers(Element symbol) {
+        return supers.computeIfAbsent(symbol, key -> program.attribution().types().directSupertypes(key.asType()).stream()
+            .filter(DeclaredType.class::isInstance).map(each -> ((DeclaredType) each).asElement()).toList());
     }
 
     /** Whether a method has the place of another one in objects of class {@code self}. */

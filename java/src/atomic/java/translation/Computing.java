@@ -100,7 +100,7 @@ final class Computing {
     }
 
     private boolean isAlone(JavaMethod method) {
-        return !method.isVirtual() || services.program().overriding().of(method).isEmpty();
+        return !method.isVirtual() || !services.program().overriding().isOverridden(method);
     }
 
     /** Whether a function that a call is given only computes. */
