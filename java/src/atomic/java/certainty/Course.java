@@ -83,6 +83,13 @@ final class Course {
         return taken;
     }
 
+    /** Whether there is one change, which adds what isn't there or sets a flag, and else nothing but looks at the same. */
+    boolean addsOne() {
+        List<Event> changes = events.stream().filter(Event::writes).toList();
+        return changes.size() == 1 && (changes.get(0).kind().adds() || changes.get(0).kind() == Touch.Kind.SET)
+            && byThing.size() == 1;
+    }
+
     /** The events of one thing. */
     List<Event> events(Object thing) {
         return byThing.getOrDefault(thing, List.of());

@@ -54,6 +54,18 @@ record Event(Object thing, Touch.Kind kind, String asked, List<Hold> held, Map<I
         return kind == Touch.Kind.FIND;
     }
 
+    /** Whether it takes something out, or puts something in its place. */
+    boolean takes() {
+        return writes() && !kind.adds();
+    }
+
+    /** Whether the other one touches what is found in the thing of this one: an entry, or a field of its object. */
+    boolean leadsTo(Event other) {
+        boolean field = thing instanceof Field one && one.type() != null && other.thing instanceof Field inner
+            && (one.type().fits(inner.owner()) || inner.owner().fits(one.type()));
+        return field || other.thing instanceof Touch.Part part && part.whole().equals(thing);
+    }
+
     /** Whether it is a change that is made only if nobody came in between. */
     boolean compares() {
         return kind == Touch.Kind.COMPARE;

@@ -11,6 +11,7 @@ import java.util.LinkedHashSet;
 import java.util.List;
 import java.util.Map;
 import java.util.Set;
+import java.util.function.Predicate;
 
 /**
  * Whether somebody can tell that a method was interrupted. A reason to believe so is another method, or the same one in
@@ -25,11 +26,15 @@ import java.util.Set;
  * <li>two looks, each made whatever the other tells, of which one method changes one and another one then the other;</li>
  * <li>a look at one thing and a change of another, and the other method changes the one and touches the other.</li>
  * </ul>
+ * What adds what isn't there also finds what is: so one that takes it out has a conflict with it.
+ * <p>
  * No reason is a look that a region asks again before the second event, by itself or by what was looked at with it; a turn
  * that tries again where somebody came in between; a look-up of what is worked on then, where the other method only adds, or
- * where a region asks the found one anything; two look-ups of two things, of which the other method changes one; plain data
- * that a later change publishes, and that the other method only looks at behind a test of that; and all of a method that
- * takes a lock in no form that is known.
+ * where a region asks the found one anything; two look-ups of two things, of which the other method changes one; two look-ups in
+ * what the other method adds one thing to; the making of an object where it is wanted first, for who only looks; what is
+ * added, and then filled, for who looks it up; what is done with an object that was dropped; plain data
+ * that a later change publishes, and that the other method only looks at behind a test of that; a method that gives nothing,
+ * and only adds one thing where it isn't; and all of a method that takes a lock in no form that is known.
  */
 public final class Interruptions {
     /** How often another method is held against a pair of events, at most: behind that no reason is seen. */
@@ -40,6 +45,7 @@ public final class Interruptions {
     private final Program program;
     private final Callees callees;
     private final Set<Method> others;
+    private final Predicate<Method> silent;
     private final Map<Method, Course> courses = new HashMap<>();
     private final Map<Object, Set<Method>> byThing = new HashMap<>();
     private final Map<Pair, List<Method>> byBoth = new HashMap<>();
@@ -51,18 +57,20 @@ public final class Interruptions {
 
     /** What is asked of another method for two events: whether it has a conflict with both. Many pairs ask the same. */
     private record Question(Course course, Pair things, boolean changesOne, boolean changesTwo, boolean found, boolean twice,
-            boolean apart, boolean publishes) {
+            boolean apart, boolean publishes, boolean adds, boolean fills) {
 
         static Question of(Course course, Event one, Event two) {
             return new Question(course, new Pair(one.thing(), two.thing()), one.writes(), two.writes(),
                 one.finds() && !one.isSame(two), one.finds() && two.finds(), !one.asked().equals(two.asked()),
-                one.isPlain() && !two.isPlain() && one.writes());
+                one.isPlain() && !two.isPlain() && one.writes(), one.kind() == Touch.Kind.ADD,
+                one.kind() == Touch.Kind.ADD && one.leadsTo(two));
         }
     }
 
-    /** The methods of a program; {@code others} are those that other threads may call. */
-    public Interruptions(Program program, Collection<Method> others) {
+    /** The methods of a program; {@code others} are those that other threads may call, {@code silent} those that give nothing. */
+    public Interruptions(Program program, Collection<Method> others, Predicate<Method> silent) {
         this.program = program;
+        this.silent = silent;
         List<Method> all = new ArrayList<>();
         program.shapes().forEach(shape -> all.addAll(shape.methods()));
         callees = new Callees(all);
@@ -73,7 +81,7 @@ public final class Interruptions {
     /** The method that can tell that this one was interrupted, or null where none is seen. */
     public Method witness(Method method) {
         Course course = course(method);
-        List<Event> events = course.isDark() ? List.of() : course.events();
+        List<Event> events = course.isDark() || silent.test(method) && course.addsOne() ? List.of() : course.events();
         int most = Math.min(MOST_LOOKS, looks + MOST_LOOKS_OF_ONE);
         for (int second = 1; second < events.size(); second++) {
             for (int first = 0; first < second && looks < most; first++) {
@@ -98,7 +106,8 @@ public final class Interruptions {
         Event two = course.events().get(second);
         boolean tried = one.isSame(two) && course.compares(one.thing()) && (one.compares() || !one.writes());
         boolean half = !one.writes() && !course.looks(one) && second != first + 1;
-        boolean made = one.kind() == Touch.Kind.MAKE || two.kind() == Touch.Kind.MAKE && one.writes();
+        boolean made = one.kind() == Touch.Kind.MAKE || two.kind() == Touch.Kind.MAKE && one.writes()
+            || one.kind() == Touch.Kind.SET && one.isSame(two) || one.kind() == Touch.Kind.DROP && one.leadsTo(two);
         return !tried && !half && !made && (one.writes() || course.askedAgain(first) > second);
     }
 
@@ -170,7 +179,8 @@ public final class Interruptions {
     private static boolean tells(Question asked) {
         Course course = asked.course();
         List<Event> firsts = course.events(asked.things().one()).stream().filter(each -> (asked.changesOne() || each.writes())
-            && !(asked.found() && each.kind().adds()) && !(asked.changesOne() && !course.looks(each))).toList();
+            && !(asked.found() && each.kind().adds()) && !(asked.fills() && each.finds())
+            && !(asked.changesOne() && !course.looks(each) && !(asked.adds() && each.takes()))).toList();
         List<Event> seconds = firsts.isEmpty() ? List.of() : course.events(asked.things().two()).stream()
             .filter(each -> (asked.changesTwo() || each.writes())
                 && !(asked.changesOne() && asked.changesTwo() && !course.looks(each))).toList();

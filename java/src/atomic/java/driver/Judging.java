@@ -119,7 +119,7 @@ final class Judging {
     /** The places of methods with an error of which some method can tell that another thread came in between. */
     Map<String, Method> witnessed(List<String> errors) {
         Set<String> places = places(errors);
-        Interruptions interruptions = new Interruptions(program, methods.callable());
+        Interruptions interruptions = new Interruptions(program, methods.callable(), methods::givesNothing);
         Map<String, Method> witnesses = new HashMap<>();
         for (Method each : roots()) {
             String place = String.valueOf(each.place());

@@ -22,6 +22,10 @@ public record Touch(Object object, Kind kind, String asked) {
         ADD,
         /** It makes the object of a field that has none. */
         MAKE,
+        /** It sets such a field to null. */
+        DROP,
+        /** It sets a flag that never goes back. */
+        SET,
         /** It changes something. */
         CHANGE,
         /** It changes one thing by a function of what is there, and where it tries again, what failed only looked. */

@@ -106,10 +106,17 @@ final class Accesses {
         return again;
     }
 
-    /** Whether a field is given an object once, and only what is certain counts: a look at it may tell the same later. */
+    /**
+     * Whether a field is given an object once, or the same each time, and only what is certain counts: a look at it may tell
+     * the same later.
+     */
     private boolean isStable(VariableElement field, Tree at) {
-        boolean once = new StableLooks(services).isSetOnce(field);
-        if (once) {
+        boolean kept = new Caches(services).keeps(field);
+        boolean once = kept || new StableLooks(services).isSetOnce(field);
+        if (kept) {
+            services.hint(at, "cache: what " + field.getSimpleName() + " keeps is computed from final fields alone, so that each"
+                + " thread computes the same; each counts as a step all the same");
+        } else if (once) {
             services.hint(at, "stable look: " + field.getSimpleName() + " is set once, so that what a look has found stays so,"
                 + " and its setting may show nowhere; each counts as a step all the same");
         }
@@ -185,6 +192,7 @@ final class Accesses {
                 access(holder(field, home, receiver), home.field(), true, at);
                 new Versions(services).note(field, true, at);
                 new Lazies(services).note(field, true, at);
+                new Flags(services).note(field, at);
             }
         }
     }

@@ -12,12 +12,12 @@ import javax.lang.model.element.TypeElement;
 import javax.lang.model.element.VariableElement;
 
 /**
- * The own fields of an iterator, such as where it stands. By the habit of Java's libraries one thread walks with an iterator,
- * and whoever hands it to another one hands it over for good: {@code Spliterator} says so, and no iterator of
- * {@code java.util} is safe otherwise. So a look at such a field is as good as one at a local. Nothing keeps a caller from
+ * The own fields of an iterator, such as where it stands, and of a builder. By the habit of Java's libraries one thread walks
+ * with an iterator, and whoever hands it to another one hands it over for good: {@code Spliterator} says so, and no iterator of
+ * {@code java.util} is safe otherwise. The same is so of a builder. So a look at such a field is as good as one at a local. Nothing keeps a caller from
  * doing otherwise: so each of them counts as a step, and only where what is certain counts it doesn't. A field that is
  * volatile, that has a guard, that code outside touches, or that is touched with the iterator's own monitor held, says that
- * several threads walk.
+ * several threads come.
  */
 record Cursors(Services services) {
     private static final List<String> WALKS = List.of("java.util.Iterator", "java.util.Enumeration", "java.util.Spliterator");
@@ -26,7 +26,7 @@ record Cursors(Services services) {
     boolean leavesOut(VariableElement field, Tree at) {
         boolean own = field != null && isOwn(field);
         if (own) {
-            services.hint(at, "own field: one thread alone walks with an iterator, as a rule, so that nobody else touches "
+            services.hint(at, "own field: one thread alone has an iterator or a builder, as a rule, so that nobody else touches "
                 + field.getSimpleName() + "; it counts as a step all the same");
         }
         return own && services.program().sure();
@@ -39,9 +39,9 @@ record Cursors(Services services) {
             && services.uses().of(field).stream().allMatch(use -> isWithin(use, owner));
     }
 
-    /** Whether a class is an iterator, or what iterators alone are made of: an abstract one of which each heir is one. */
+    /** Whether a class is a builder by its name, an iterator, or what iterators alone are made of: an abstract one of which each heir is one. */
     private boolean walks(TypeElement owner) {
-        if (WALKS.stream().map(services.attribution().elements()::getTypeElement).anyMatch(each -> isBelow(owner, each))) {
+        if (owner.getSimpleName().toString().endsWith("Builder") || WALKS.stream().map(services.attribution().elements()::getTypeElement).anyMatch(each -> isBelow(owner, each))) {
             return true;
         }
         List<TypeElement> heirs = services.program().classes().stream().map(JavaClass::symbol)

@@ -1,7 +1,9 @@
 package atomic.java.translation;
 
 import atomic.java.ownership.Uses;
+import atomic.java.program.Touch;
 import com.sun.source.tree.LiteralTree;
+import com.sun.source.tree.Tree;
 import com.sun.source.tree.VariableTree;
 import java.util.List;
 import javax.lang.model.element.Modifier;
@@ -13,6 +15,13 @@ import javax.lang.model.type.TypeKind;
  * one was seen to be set, a second look tells the same, and where a second look finds it still unset, so was the first.
  */
 record Flags(Services services) {
+
+    /** Notes of a change that it sets such a flag. */
+    void note(VariableElement field, Tree at) {
+        if (never(field)) {
+            services.program().touches().put(services.attribution().name(at), new Touch(field, Touch.Kind.SET, ""));
+        }
+    }
 
     /** Whether a field is such a flag. */
     boolean never(VariableElement field) {

@@ -203,7 +203,7 @@ final class LibraryCalls {
         boolean own = called.choice().runsFunctions() && !many && called.arguments().stream().map(Uses::bare).anyMatch(each ->
             each instanceof LambdaExpressionTree || each instanceof MemberReferenceTree);
         new Touches(services).note(called.at());
-        boolean any = own || isLock(called) || services.stable().counts(called);
+        boolean any = own || isLock(called) || services.stable().counts(called) || services.stable().isFoundSum(called);
         body.emit(services.doubt(any ? Method.Doubt.ANY : Method.Doubt.OPEN, called.shown(), true, body, called.at(),
             "compound library call: " + called.shown() + " counts as several steps"));
     }

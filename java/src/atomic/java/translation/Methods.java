@@ -25,6 +25,7 @@ import java.util.TreeMap;
 import java.util.TreeSet;
 import javax.lang.model.element.Modifier;
 import javax.lang.model.element.VariableElement;
+import javax.lang.model.type.TypeKind;
 
 /**
  * The methods of the skeleton. Each Java method has one; more of the same code are made where a constructor or another
@@ -89,6 +90,12 @@ public final class Methods {
         Set<Method> all = roots();
         all.removeIf(each -> judged.containsKey(each) && !judged.get(each).isCallable());
         return all;
+    }
+
+    /** Whether a method gives its caller nothing. */
+    public boolean givesNothing(Method method) {
+        JavaMethod java = judged.get(method);
+        return java != null && java.symbol().getReturnType().getKind() == TypeKind.VOID;
     }
 
     /** Whether a Java method says that it is atomic. */

@@ -73,6 +73,14 @@ record StableLooks(Services services) {
         return counts(called, Set.of("increment", "sum", "intValue", "longValue"));
     }
 
+    /** Whether the sum is one of a counter that was found somewhere, of which it isn't known how it counts. */
+    boolean isFoundSum(LibraryCalls.Called called) {
+        return called.at() instanceof MethodInvocationTree call && call.getMethodSelect() instanceof MemberSelectTree select
+            && called.shown().equals("LongAdder.sum")
+            && !(services.attribution().element(Uses.bare(select.getExpression())) instanceof VariableElement variable
+                && variable.getKind().isField());
+    }
+
     private boolean counts(LibraryCalls.Called called, Set<String> calls) {
         return called.at() instanceof MethodInvocationTree call && call.getMethodSelect() instanceof MemberSelectTree select
             && called.shown().startsWith("LongAdder.")

@@ -132,6 +132,9 @@ final class Statements extends SimpleTreeVisitor<Void, Void> {
     public Void visitIf(IfTree tree, Void nothing) {
         ExpressionTree tried = regions.tried(tree);
         if (tried == null || !regions.attempt(tree, tried, List.of())) {
+            if (new IdleWrites(services, body, this).write(tree)) {
+                return null;
+            }
             if (!new Questions(services, regions).isAskedAgain(tree) || !services.program().sure()) {
                 expressions.value(tree.getCondition());
             }

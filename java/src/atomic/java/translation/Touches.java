@@ -74,9 +74,15 @@ record Touches(Services services) {
         if (name.equals("get") && call.getArguments().isEmpty() || LOOKING.contains(name)) {
             return Touch.Kind.LOOK;
         }
-        return FINDING.contains(name) ? Touch.Kind.FIND : ADDING.contains(name) || adds(name, call) ? Touch.Kind.ADD
+        return FINDING.contains(name) ? Touch.Kind.FIND : ADDING.contains(name) || adds(name, call) || raises(name, call) ? Touch.Kind.ADD
             : UPDATING.contains(name) ? Touch.Kind.UPDATE
             : COMPARING.contains(name) || Attempt.isOfKey(call) ? Touch.Kind.COMPARE : Touch.Kind.CHANGE;
+    }
+
+    /** Whether a number becomes the greatest that was seen, or the least: it never goes back. */
+    private static boolean raises(String name, MethodInvocationTree call) {
+        return (name.equals("accumulateAndGet") || name.equals("getAndAccumulate"))
+            && call.getArguments().get(call.getArguments().size() - 1).toString().matches("\\w+::(max|min)");
     }
 
     private boolean adds(String name, MethodInvocationTree call) {

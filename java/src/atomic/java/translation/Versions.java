@@ -21,9 +21,9 @@ import javax.lang.model.element.VariableElement;
  * {@code all.get(k)} looks one thing up.
  */
 record Versions(Services services) {
-    private static final Set<String> FINDING = Set.of("get", "getOrDefault", "containsKey", "contains");
+    private static final Set<String> FINDING = Set.of("get", "getOrDefault", "containsKey", "contains", "isEmpty");
     private static final Set<String> ADDING = Set.of("putIfAbsent", "computeIfAbsent", "add");
-    private static final Set<String> LOOKING = Set.of("size", "isEmpty");
+    private static final Set<String> LOOKING = Set.of("size");
     private static final Set<String> COPIES = Set.of("copyOf", "unmodifiableMap", "unmodifiableSet", "unmodifiableList",
         "unmodifiableCollection");
 
