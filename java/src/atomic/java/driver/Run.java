@@ -10,6 +10,7 @@ import atomic.java.passes.Doubts;
 import atomic.java.passes.Inference;
 import atomic.java.passes.Limits;
 import atomic.java.passes.Marking;
+import atomic.java.passes.OnlyOfNew;
 import atomic.java.passes.OtherNames;
 import atomic.java.passes.Pruning;
 import atomic.java.passes.Races;
@@ -128,6 +129,7 @@ public final class Run {
 
     /** Takes waits, locks of readers and what has no step out of the skeleton, and finds guards where that is asked. */
     private void refine(Program program, Methods methods) {
+        methods.judgeAsNew(new OnlyOfNew(all(program), methods.forNew()).find());
         List<Method> all = all(program);
         Scopes.run(all);
         if (program.sure()) {
@@ -151,7 +153,7 @@ public final class Run {
         List<Method> kept = all(program);
         new Races(program.names(), program.notes()).run(kept);
         Marking.run(kept);
-        new ClosedWorld(program).run();
+        new ClosedWorld(program, methods.onlyOfNew()).run();
         new Limits(program, kept).run();
     }
 

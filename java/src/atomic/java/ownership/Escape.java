@@ -230,21 +230,24 @@ public final class Escape {
             return attribution.start(call);
         } else if (program.method(symbol) != null) {
             return whole.isBorrowed(symbol, call.getArguments().indexOf(use)) ? NEVER : attribution.start(call);
-        } else if (implied.leaks(use)) {
-            return attribution.start(call);
         }
         Choice choice = choose(call.getMethodSelect(), symbol);
+        boolean texts = TEXTS.contains(symbol.getEnclosingElement().toString());
+        boolean asks = texts || choice.kind() == Choice.Kind.ASSUMED || choice.kind() == Choice.Kind.READS;
+        if (asks && implied.leaks(use)) {
+            return attribution.start(call);
+        }
         boolean copies = symbol.getSimpleName().toString().endsWith("All") && choice.kind() != Choice.Kind.UNKNOWN;
         if (copies) {
             return showsEntries(use) ? attribution.start(call) : NEVER;
-        } else if (TEXTS.contains(symbol.getEnclosingElement().toString())) {
+        } else if (texts) {
             return NEVER;
         }
         long copied = showsEntries(use) && !results.isValue(call) ? from(call) : NEVER;
         return Math.min(copied, switch (choice.kind()) {
             case VIEW -> from(call);
             case PURE, ASSUMED, READS, RUN -> choice.keeps() ? attribution.start(call) : given(call, use);
-            case UNKNOWN -> unknown(call);
+            case UNKNOWN -> choice.keeps() ? unknown(call) : NEVER;
             default -> attribution.start(call);
         });
     }

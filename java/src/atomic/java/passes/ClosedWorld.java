@@ -20,9 +20,12 @@ public final class ClosedWorld {
     private static final int MOST_NAMES = 4;
 
     private final Program program;
+    private final Set<JavaMethod> onlyOfNew;
 
-    public ClosedWorld(Program program) {
+    /** The methods {@code onlyOfNew} are called on objects alone that nobody else knows yet. */
+    public ClosedWorld(Program program, Set<JavaMethod> onlyOfNew) {
         this.program = program;
+        this.onlyOfNew = onlyOfNew;
     }
 
     /** Tells of all classes that have fields or methods which the skeleton names. */
@@ -61,12 +64,12 @@ public final class ClosedWorld {
         return listed(names);
     }
 
-    /** The methods that others might call without the locks that each call here holds. */
-    private static String openMethods(JavaClass each) {
+    /** The methods that others might call without the locks that each call here holds, or on an object that others know. */
+    private String openMethods(JavaClass each) {
         Set<Place> holding = each.shape().methods().stream().filter(method -> method.closed() && !method.required().isEmpty()
             && method.place() != null).map(Method::place).collect(Collectors.toSet());
-        return listed(each.methods().stream().filter(java -> holding.contains(java.place()) && !java.isPrivate()
-            && !java.isConstructor()).map(java -> java.symbol().getSimpleName().toString()).distinct().toList());
+        return listed(each.methods().stream().filter(java -> (holding.contains(java.place()) || onlyOfNew.contains(java))
+            && !java.isPrivate() && !java.isConstructor()).map(java -> java.symbol().getSimpleName().toString()).distinct().toList());
     }
 
     private static String listed(List<String> names) {

@@ -1,16 +1,22 @@
 package atomic.java.translation;
 
 import atomic.java.program.JavaClass;
+import atomic.java.skeleton.Part;
 import atomic.java.skeleton.Shape;
 import atomic.java.skeleton.Value;
 import com.sun.source.tree.BindingPatternTree;
 import com.sun.source.tree.Tree;
 import com.sun.source.tree.VariableTree;
 import com.sun.source.util.TreeScanner;
+import java.util.List;
+import javax.lang.model.element.RecordComponentElement;
 import javax.lang.model.element.VariableElement;
 
 /** What the locals of a method stand for. */
 final class Locals {
+    /** The kind of a record's pattern, for which Java 17 has no name. */
+    private static final String RECORD_PATTERN = "DECONSTRUCTION_PATTERN";
+
     private final Services services;
     private final Body body;
 
@@ -26,15 +32,35 @@ final class Locals {
         }
     }
 
-    /** Declares what a pattern names, also the parts of a record. */
+    /** Declares what a pattern names, also the parts of a record, for which it calls the accessors. */
     void declareAll(Tree pattern) {
         new TreeScanner<Void, Void>() {
+            @Override
+            public Void scan(Tree tree, Void nothing) {
+                if (tree != null && tree.getKind().name().equals(RECORD_PATTERN)) {
+                    accessors(tree);
+                }
+                return super.scan(tree, nothing);
+            }
+
             @Override
             public Void visitBindingPattern(BindingPatternTree tree, Void nothing) {
                 declare(tree.getVariable(), null);
                 return null;
             }
         }.scan(pattern, null);
+    }
+
+    /** The accessors of a record that somebody wrote: a pattern calls one after the other, up to the first part that doesn't fit. */
+    private void accessors(Tree pattern) {
+        JavaClass known = services.program().find(services.attribution().type(pattern));
+        List<? extends RecordComponentElement> parts = known == null ? List.of() : known.symbol().getRecordComponents();
+        for (RecordComponentElement part : parts) {
+            known.methods().stream().filter(each -> each.symbol().getSimpleName().equals(part.getSimpleName())
+                && each.symbol().getParameters().isEmpty()).forEach(each -> body.emit(new Part.Either(new Part.Call(
+                    new Value.Opaque(known.shape()), services.methods().of(each), List.of(new Value.Named(body.statics())),
+                    services.attribution().name(pattern)), Part.NOTHING)));
+        }
     }
 
     private Value value(VariableElement variable, Value first) {

@@ -44,6 +44,7 @@ public final class Methods {
     private final Map<Method, Object> origins = new LinkedHashMap<>();
     private final Map<JavaClass, Method> initialisers = new HashMap<>();
     private final Set<Method> alone = new LinkedHashSet<>();
+    private final Set<JavaMethod> onlyOfNew = new LinkedHashSet<>();
     private final Map<Place, Place> repeats = new TreeMap<>();
     private final Set<Place> helpers = new TreeSet<>();
     private final Deque<Runnable> waiting = new ArrayDeque<>();
@@ -71,6 +72,37 @@ public final class Methods {
     /** The Java method of each method that is judged for its own sake. */
     public Map<Method, JavaMethod> judged() {
         return judged;
+    }
+
+    /** Of the methods that are called on new objects too, each with the one for these. */
+    public Map<Method, Method> forNew() {
+        Map<Method, Method> found = new LinkedHashMap<>();
+        known.forEach((key, made) -> {
+            Method own = key.fresh() && !key.method().isConstructor()
+                ? known.get(new Key(key.method(), key.self(), false)) : null;
+            if (own != null) {
+                found.put(own, made);
+            }
+        });
+        return found;
+    }
+
+    /** These are called on new objects alone: the methods for such are judged in their place. */
+    public void judgeAsNew(Set<Method> unused) {
+        Map<Method, Method> others = forNew();
+        for (Method each : unused) {
+            JavaMethod java = judged.remove(each);
+            if (java != null) {
+                judged.put(others.get(each), java);
+                onlyOfNew.add(java);
+            }
+        }
+        services.program().shapes().forEach(shape -> shape.methods().removeIf(unused::contains));
+    }
+
+    /** The Java methods that are called on new objects alone. */
+    public Set<JavaMethod> onlyOfNew() {
+        return onlyOfNew;
     }
 
     /** All methods that stand for code of the sources. */
