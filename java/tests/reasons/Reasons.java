@@ -86,6 +86,60 @@ public class Reasons {
         }
     }
 
+    public static final class Outside {
+        private int changes;
+        private int value;
+
+        public synchronized void set(int next) { // refused: certain: touch may count in the middle, before it takes the lock
+            changes++;
+            value = next;
+        }
+
+        public void touch() { // refused: certain: a lost update
+            changes++;
+            synchronized (this) {
+                value = 0;
+            }
+        }
+
+        public synchronized int both() { // refused: certain: touch may count between the two looks
+            int first = changes;
+            return first == changes ? value : first;
+        }
+    }
+
+    public static final class Tickets {
+        private final AtomicInteger next = new AtomicInteger();
+
+        public int draw() {
+            int old;
+            do {
+                old = next.get();
+            } while (!next.compareAndSet(old, old + 1));
+            return old;
+        }
+
+        public long pair() { // refused: certain: another thread may draw between the two
+            return 10L * draw() + draw();
+        }
+    }
+
+    public static final class Ticks {
+        private final AtomicInteger ticks = new AtomicInteger();
+
+        public void tick() {
+            int old;
+            do {
+                old = ticks.get();
+            } while (!ticks.compareAndSet(old, old + 1));
+        }
+
+        public void twice() { // refused: perhaps: nobody asks how many there were
+            tick();
+            tick();
+        }
+    }
+
     public static final class Registry {
         private final Map<String, AtomicInteger> all = new ConcurrentHashMap<>();
 

@@ -124,7 +124,7 @@ final class Course {
             && each.around(event).size() > outer).map(Event::thing).collect(Collectors.toSet());
     }
 
-    /** Whether an event is a look, and more than the first half of {@code n++}. */
+    /** Whether an event is a look, and more than the first half of {@code n++}, or a change that tells what was there. */
     boolean looks(Event event) {
         return looks.computeIfAbsent(event, this::isLook);
     }
@@ -132,7 +132,7 @@ final class Course {
     private boolean isLook(Event event) {
         int next = events.indexOf(event) + 1;
         Event after = next < events.size() ? events.get(next) : event;
-        return !event.writes() && !(after.writes() && after.isSame(event) && after.branches().equals(event.branches()));
+        return event.draws() || !event.writes() && !(after.writes() && after.isSame(event) && after.branches().equals(event.branches()));
     }
 
     /** Whether some change of a thing is made only if nobody came in between. */
@@ -177,7 +177,7 @@ final class Course {
         Event made = new Event(thing, touch.kind(), touch.asked(), List.copyOf(held), Map.copyOf(branches));
         events.add(made);
         byThing.computeIfAbsent(thing, key -> new ArrayList<>()).add(made);
-        if (made.compares() || made.kind() == Touch.Kind.RETRY) {
+        if (made.compares() || made.kind() == Touch.Kind.RETRY || made.draws()) {
             compared.add(thing);
         }
     }

@@ -71,6 +71,11 @@ record Event(Object thing, Touch.Kind kind, String asked, List<Hold> held, Map<I
         return kind == Touch.Kind.COMPARE;
     }
 
+    /** Whether it is a change behind which it is asked what was there. */
+    boolean draws() {
+        return kind == Touch.Kind.DRAW;
+    }
+
     /** Whether it is one of plain data, which another thing may publish. */
     boolean isPlain() {
         return thing instanceof Field field && !field.ordered();

@@ -3,6 +3,7 @@ package atomic.java.certainty;
 import atomic.java.passes.Callees;
 import atomic.java.program.Program;
 import atomic.java.program.Touch;
+import atomic.java.skeleton.Field;
 import atomic.java.skeleton.Method;
 import java.util.ArrayList;
 import java.util.Collection;
@@ -17,6 +18,8 @@ import java.util.function.Predicate;
  * Whether somebody can tell that a method was interrupted. A reason to believe so is another method, or the same one in
  * another thread, that may run as a whole between two events of the method: it needs no lock that is held there, it has
  * a conflict with the first event, so that it comes behind the method, and one with the second, so that it comes in front.
+ * So it is with one change of another method, of the field that both events touch and the first one looks at, which that
+ * method makes while it holds no lock that is held there: what it does before may come before the first event.
  * The closed list of such pairs of events:
  * <ul>
  * <li>a look and a later change of the same, and the other one changes it too: check-then-act, and the lost update;</li>
@@ -78,16 +81,26 @@ public final class Interruptions {
         this.others.retainAll(all);
     }
 
-    /** The method that can tell that this one was interrupted, or null where none is seen. */
+    /** The method that can tell that this one was interrupted, or null where none is seen. Two events of one thing come first. */
     public Method witness(Method method) {
         Course course = course(method);
-        List<Event> events = course.isDark() || silent.test(method) && course.addsOne() ? List.of() : course.events();
+        if (course.isDark() || silent.test(method) && course.addsOne()) {
+            return null;
+        }
         int most = Math.min(MOST_LOOKS, looks + MOST_LOOKS_OF_ONE);
+        Method found = witness(course, true, most);
+        return found == null ? witness(course, false, most) : found;
+    }
+
+    /** The method that tells apart two events that touch the same, or that don't. */
+    private Method witness(Course course, boolean same, int most) {
+        List<Event> events = course.events();
         for (int second = 1; second < events.size(); second++) {
             for (int first = 0; first < second && looks < most; first++) {
                 Event one = events.get(first);
                 Event two = events.get(second);
-                Method found = one.meets(two) && counts(course, first, second) ? reason(course, one, two) : null;
+                Method found = one.isSame(two) == same && one.meets(two) && counts(course, first, second)
+                    ? reason(course, one, two) : null;
                 if (found != null) {
                     return found;
                 }
@@ -167,12 +180,24 @@ public final class Interruptions {
         for (Method other : touching(one, two)) {
             looks++;
             Course course = course(other);
-            if (!isKeptOut(course, around) && !course.isDark()
-                && told.computeIfAbsent(Question.of(course, one, two), Interruptions::tells)) {
+            boolean whole = !isKeptOut(course, around);
+            if (!course.isDark() && (whole ? told.computeIfAbsent(Question.of(course, one, two), Interruptions::tells)
+                    : changesOutside(course, one, two, around))) {
                 return other;
             }
         }
         return null;
+    }
+
+    /**
+     * Whether a method that takes a lock which is held around the two events changes the field that both touch while it holds
+     * none of these: it may have come that far before the first event, whatever it does then. Of an object that changes as a
+     * whole, such as an atomic counter, what was asked may still hold.
+     */
+    private static boolean changesOutside(Course course, Event one, Event two, List<Event.Hold> around) {
+        return !one.writes() && one.thing() instanceof Field && one.isSame(two)
+            && course.events(one.thing()).stream().anyMatch(each -> each.writes()
+                && each.held().stream().noneMatch(hold -> around.stream().anyMatch(hold::keepsOut)));
     }
 
     /** Whether a method that does these events has a conflict with both. */

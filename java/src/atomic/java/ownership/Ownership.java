@@ -45,6 +45,7 @@ public final class Ownership {
     private final Sites sites;
     private final LocalFunctions localFunctions;
     private final Comparators comparators;
+    private final Brought brought;
     private final Map<VariableElement, String> made = new HashMap<>();
     private final Map<JavaMethod, String> given = new HashMap<>();
     private final Map<VariableElement, Long> escapes = new HashMap<>();
@@ -65,6 +66,7 @@ public final class Ownership {
         sites = new Sites(program);
         localFunctions = new LocalFunctions(program, uses, escape);
         comparators = new Comparators(program, this);
+        brought = new Brought(program, uses, sites);
         escape.helpersCall(localFunctions::isHandedOn);
     }
 
@@ -88,6 +90,11 @@ public final class Ownership {
     /** The comparators whose functions are at hand. */
     public Comparators comparators() {
         return comparators;
+    }
+
+    /** The collections that code outside brings. */
+    public Brought brought() {
+        return brought;
     }
 
     /** Finds the fields whose objects stay within their classes, under whatever names. */

@@ -10,9 +10,10 @@ import java.util.HashSet;
 import java.util.Set;
 
 /**
- * Takes out the looks at contents that nobody changes once others know them, as of arrays that are copied on write. Where only
- * what is sure counts, so go those at other fields that nobody changes, such as one that a copy is given before it is known:
- * a look tells the same at any time.
+ * Takes out the looks at contents that nobody changes once others know them, as of arrays that are copied on write, and at
+ * private fields that only a constructor sets: a look tells the same at any time. A constructor that lets its object get away
+ * changes its fields from then on, and so do a reflected name, native code and a copy by {@code clone()}. Where only what is
+ * sure counts, so go looks at other fields that nobody at hand changes.
  */
 public final class Unwritten {
     private final Collection<Method> methods;
@@ -25,13 +26,14 @@ public final class Unwritten {
         methods.forEach(method -> find(method.body()));
     }
 
-    /** Tells of the fields that nobody changes, whose looks count as steps all the same. */
+    /** Tells of the fields that nobody at hand changes, whose looks count as steps all the same. */
     public void tell(Names names, Notes notes) {
         methods.forEach(method -> tell(method.body(), names, notes));
     }
 
     private void tell(Part part, Names names, Notes notes) {
-        if (part instanceof Part.Access access && isSettled(access.field()) && access.place() != null) {
+        if (part instanceof Part.Access access && isSettled(access.field()) && !access.field().isHidden()
+                && access.place() != null) {
             notes.hint(access.place(), "stable look: " + names.shown(access.field().name()) + " is changed only before others"
                 + " know its object, so that a look tells the same at any time; it counts as a step all the same");
         }
@@ -51,7 +53,7 @@ public final class Unwritten {
     }
 
     private Part without(Part part) {
-        boolean idle = part instanceof Part.Access access && (sure && isSettled(access.field())
+        boolean idle = part instanceof Part.Access access && (isSettled(access.field()) && (sure || access.field().isHidden())
             || access.field().isContents() && !written.contains(access.field()));
         return idle ? Part.NOTHING : part.map(this::without);
     }

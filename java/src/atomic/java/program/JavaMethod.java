@@ -20,6 +20,10 @@ public record JavaMethod(ExecutableElement symbol, MethodTree tree, JavaClass ow
         return symbol.getModifiers().contains(Modifier.PRIVATE);
     }
 
+    public boolean isNative() {
+        return symbol.getModifiers().contains(Modifier.NATIVE);
+    }
+
     /** Whether code of other packages may call it. */
     public boolean isOpen() {
         return symbol.getModifiers().contains(Modifier.PUBLIC) || symbol.getModifiers().contains(Modifier.PROTECTED)

@@ -1,9 +1,10 @@
 package atomic.java.program;
 
 /**
- * What a library's call does with an object that is safe by itself, such as an atomic or a concurrent map.
+ * What a library's call does with an object that is safe by itself, such as an atomic or a concurrent map, or with one that
+ * code outside has brought.
  *
- * @param object the field that holds the object, or {@link Part} of it
+ * @param object the field that holds the object, or {@link Part} of it, or {@link Brought}
  * @param kind what is done with it
  * @param asked the arguments of the call as they are written
  */
@@ -11,6 +12,9 @@ public record Touch(Object object, Kind kind, String asked) {
 
     /** What is found in an object that a field holds, such as the values of a map. */
     public record Part(Object whole) { }
+
+    /** A collection of this type that code outside has brought; another one of the type may be the same. */
+    public record Brought(String type) { }
 
     /** What a call does. */
     public enum Kind {
@@ -33,7 +37,9 @@ public record Touch(Object object, Kind kind, String asked) {
         /** It changes something if nobody came in between. */
         COMPARE,
         /** It changes something, and tries again until nobody came in between. */
-        RETRY;
+        RETRY,
+        /** It does so, and what was there is asked behind it. */
+        DRAW;
 
         /** Whether it may change the object. */
         public boolean writes() {
@@ -47,7 +53,7 @@ public record Touch(Object object, Kind kind, String asked) {
 
         /** Whether it changes one thing at one moment, however many steps it counts as. */
         public boolean changesOnce() {
-            return adds() || this == UPDATE || this == COMPARE || this == RETRY;
+            return adds() || this == UPDATE || this == COMPARE || this == RETRY || this == DRAW;
         }
     }
 }

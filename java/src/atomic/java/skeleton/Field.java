@@ -23,6 +23,7 @@ public final class Field {
     private boolean lock;
     private boolean made;
     private boolean around;
+    private boolean hidden;
     private Field one;
 
     /** A field of {@code owner}; without a type it holds a number; {@code fixed} says that it is final. */
@@ -146,6 +147,15 @@ public final class Field {
 
     public void leadsOut() {
         around = true;
+    }
+
+    /** Whether all code that touches it is at hand. */
+    public boolean isHidden() {
+        return hidden;
+    }
+
+    public void hide() {
+        hidden = true;
     }
 
     /** Whether it stands for a field of a container's nodes, of which one may be new where it is touched. */

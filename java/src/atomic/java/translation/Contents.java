@@ -55,7 +55,8 @@ final class Contents {
             if (at instanceof MethodInvocationTree called && called.getMethodSelect() instanceof MemberSelectTree select) {
                 exits(select.getExpression(), write);
             }
-            Method.Doubt doubt = shown.startsWith("Entry.") ? Method.Doubt.ANY : doubt(object, at);
+            boolean brought = new Touches(services).noteBrought(at, write);
+            Method.Doubt doubt = shown.startsWith("Entry.") ? Method.Doubt.ANY : brought ? Method.Doubt.OPEN : doubt(object, at);
             body.emit(services.doubt(doubt, shown, true, body, at,
                 "object of others: other threads may know the object of " + shown
                     + ", so the call counts as several steps"));

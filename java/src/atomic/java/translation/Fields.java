@@ -6,6 +6,7 @@ import atomic.java.ownership.Uses;
 import atomic.java.places.Notes;
 import atomic.java.program.Families;
 import atomic.java.program.JavaClass;
+import atomic.java.program.JavaMethod;
 import atomic.java.program.Program;
 import atomic.java.skeleton.Field;
 import atomic.java.skeleton.Path;
@@ -164,6 +165,10 @@ public final class Fields {
         if (wish.fixed() && ownership.made(java) != null) {
             field.holdsOwn();
         }
+        if (java.getModifiers().contains(Modifier.PRIVATE) && owner.methods().stream().noneMatch(JavaMethod::isNative)
+                && !isCopied(owner)) {
+            field.hide();
+        }
         boolean isVolatile = java.getModifiers().contains(Modifier.VOLATILE);
         if (isVolatile && !contents) {
             field.order();
@@ -173,6 +178,12 @@ public final class Fields {
             field.widen();
         }
         return new Home(field, holder);
+    }
+
+    /** Whether objects of a class may be copied field by field, which looks at each field without a word of it. */
+    private boolean isCopied(JavaClass owner) {
+        return program.attribution().types().isSubtype(program.attribution().types().erasure(owner.symbol().asType()),
+            program.attribution().elements().getTypeElement("java.lang.Cloneable").asType());
     }
 
     /** Numbers of 64 bits are written in two halves. */
@@ -298,7 +309,7 @@ public final class Fields {
         return !(target instanceof MemberSelectTree select) || Uses.isName(select.getExpression(), "this");
     }
 
-    /** Whether a tree belongs to a constructor or an initialiser of the field's class. */
+    /** Whether a tree belongs to an initialiser of the field's class, or to a constructor that hasn't let its object go. */
     private boolean begins(Tree tree, VariableElement java) {
         Tree each = tree;
         while (each != null && !(program.attribution().parent(each) instanceof ClassTree)) {
@@ -310,9 +321,15 @@ public final class Fields {
         boolean own = each != null
             && program.attribution().element(program.attribution().parent(each)) == java.getEnclosingElement();
         boolean constructs = each instanceof MethodTree method && method.getReturnType() == null
-            && !Families.isStatic(java);
+            && !Families.isStatic(java) && !isKnown(method, tree);
         return own && (constructs || each instanceof BlockTree block && block.isStatic() == Families.isStatic(java)
             || each instanceof VariableTree);
+    }
+
+    /** Whether a constructor may have let its object get away before a tree in it. */
+    private boolean isKnown(MethodTree constructor, Tree tree) {
+        JavaMethod method = program.method(program.attribution().element(constructor));
+        return method != null && ownership.escape().selves().from(method) < program.attribution().start(tree);
     }
 
     /** Whether objects of a type are locks with methods, or belong to such. */

@@ -75,7 +75,8 @@ final class LibraryCalls {
             new Contents(services, body).copy(object, tree, before + ".clone");
             return new Value.Fresh(null);
         }
-        Choice choice = services.ownership().escape().spreads(tree, symbol)
+        Choice choice = Pipelines.mayBeParallel(tree, symbol) ? Choice.UNKNOWN
+            : services.ownership().escape().spreads(tree, symbol)
             ? services.ownership().escape().choose(tree.getMethodSelect(), symbol) : choose(before, symbol, isStatic);
         List<Value> values = new ArrayList<>();
         body.over(choice.kind() == Choice.Kind.RUN ? object : body.element(), () ->

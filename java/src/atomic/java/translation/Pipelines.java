@@ -6,6 +6,7 @@ import atomic.java.skeleton.Method;
 import atomic.java.skeleton.Part;
 import com.sun.source.tree.ExpressionTree;
 import com.sun.source.tree.LambdaExpressionTree;
+import com.sun.source.tree.LiteralTree;
 import com.sun.source.tree.MemberReferenceTree;
 import com.sun.source.tree.MemberSelectTree;
 import com.sun.source.tree.MethodInvocationTree;
@@ -110,6 +111,13 @@ final class Pipelines {
         }
         return call.getMethodSelect() instanceof MemberSelectTree select && select.getIdentifier().contentEquals("collect")
             || isCollected(around);
+    }
+
+    /** Whether a call makes a stream of which it isn't said that this thread runs its functions. */
+    static boolean mayBeParallel(MethodInvocationTree tree, ExecutableElement symbol) {
+        return symbol.getEnclosingElement().toString().equals("java.util.stream.StreamSupport")
+            && !(Uses.bare(tree.getArguments().get(tree.getArguments().size() - 1)) instanceof LiteralTree last
+                && Boolean.FALSE.equals(last.getValue()));
     }
 
     boolean isStream(TypeMirror type) {

@@ -18,6 +18,8 @@ import com.sun.source.tree.UnaryTree;
 import com.sun.source.tree.WhileLoopTree;
 import java.util.ArrayList;
 import java.util.List;
+import java.util.stream.Stream;
+import javax.lang.model.element.Element;
 
 /**
  * Loops that try again until nobody else has changed a variable in between, such as
@@ -61,13 +63,23 @@ final class Retries {
         Place change = services.attribution().name(attempt.change());
         services.methods().repeats(look, change);
         services.methods().repeats(change, look);
-        services.program().touches().computeIfPresent(change, (key, touch) ->
-            new Touch(touch.object(), Touch.Kind.RETRY, touch.asked()));
+        Touch.Kind kind = asks(loop, turn, attempt) ? Touch.Kind.DRAW : Touch.Kind.RETRY;
+        services.program().touches().computeIfPresent(change, (key, touch) -> new Touch(touch.object(), kind, touch.asked()));
         body.emit(Jumps.mayLeave(turn.before()) ? new Part.Either(steps.get(0), steps.get(1)) : steps.get(1));
         if (turn.success() != null) {
             body.emit(new Part.Either(body.collect(() -> statements.one(turn.success())), Part.NOTHING));
         }
         return true;
+    }
+
+    /** Whether what the attempt found, or put there, is asked where it succeeds, or behind the loop. */
+    private boolean asks(StatementTree loop, Turn turn, Attempt attempt) {
+        List<? extends ExpressionTree> arguments = attempt.change().getArguments();
+        Element put = services.attribution().element(Uses.bare(arguments.get(arguments.size() - 1)));
+        return Stream.of(attempt.old(), put == null ? attempt.old() : put).flatMap(each -> services.uses().of(each).stream())
+            .map(services.attribution()::start).anyMatch(use -> use >= services.attribution().end(loop)
+                || turn.success() != null && use >= services.attribution().start(turn.success())
+                    && use < services.attribution().end(turn.success()));
     }
 
     private Turn turn(StatementTree loop) {

@@ -49,6 +49,18 @@ record Touches(Services services) {
             ? "function at " + services.attribution().start(each) : each.toString()).collect(Collectors.joining(","));
     }
 
+    /** Notes of a call what it does with a collection that code outside has brought; whether it has one. */
+    boolean noteBrought(Tree at, boolean write) {
+        String type = at instanceof MethodInvocationTree call && call.getMethodSelect() instanceof MemberSelectTree select
+            && object(select.getExpression(), 0) instanceof VariableElement field
+            ? services.ownership().brought().type(field) : null;
+        if (type != null) {
+            services.program().touches().put(services.attribution().name(at), new Touch(new Touch.Brought(type),
+                write ? Touch.Kind.CHANGE : Touch.Kind.LOOK, ""));
+        }
+        return type != null;
+    }
+
     /** Whether a field holds a flag that never goes back: where it was seen to be set, a later look tells the same. */
     private boolean isFlag(Object object) {
         return object instanceof VariableElement field && field.getModifiers().contains(Modifier.PRIVATE)
