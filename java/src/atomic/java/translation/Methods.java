@@ -294,7 +294,7 @@ public final class Methods {
         Body body = new Body(services, target, new Body.Owner(key.self(), me, method), freshUntil);
         require(method, body);
         write(key, target, body);
-        if (judged.containsKey(target) && promises(method)) {
+        if (promises.isAtomic(method) || isInherited(key)) {
             promise(target, promises.isAtomic(families.root(method)));
         }
     }
