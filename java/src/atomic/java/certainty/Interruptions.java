@@ -68,6 +68,22 @@ public final class Interruptions {
                 one.isPlain() && !two.isPlain() && one.writes(), one.kind() == Touch.Kind.ADD,
                 one.kind() == Touch.Kind.ADD && one.leadsTo(two));
         }
+
+        /** Whether an event has a conflict with the first one. */
+        boolean isFirst(Event each) {
+            return changesOne ? !(fills && each.finds()) && (course.looks(each) || adds && each.takes())
+                : each.writes() && !(found && each.kind().adds());
+        }
+
+        /** Whether an event has a conflict with the second one. */
+        boolean isSecond(Event each) {
+            return changesTwo ? !changesOne || course.looks(each) : each.writes();
+        }
+
+        /** Whether one change stands against two look-ups, which tell the same in front of it and behind it. */
+        boolean isFoundTwice(Event each, Event other) {
+            return twice && each == other && (apart || each.kind().adds());
+        }
     }
 
     /** The methods of a program; {@code others} are those that other threads may call, {@code silent} those that give nothing. */
@@ -203,14 +219,11 @@ public final class Interruptions {
     /** Whether a method that does these events has a conflict with both. */
     private static boolean tells(Question asked) {
         Course course = asked.course();
-        List<Event> firsts = course.events(asked.things().one()).stream().filter(each -> (asked.changesOne() || each.writes())
-            && !(asked.found() && each.kind().adds()) && !(asked.fills() && each.finds())
-            && !(asked.changesOne() && !course.looks(each) && !(asked.adds() && each.takes()))).toList();
-        List<Event> seconds = firsts.isEmpty() ? List.of() : course.events(asked.things().two()).stream()
-            .filter(each -> (asked.changesTwo() || each.writes())
-                && !(asked.changesOne() && asked.changesTwo() && !course.looks(each))).toList();
+        List<Event> firsts = course.events(asked.things().one()).stream().filter(asked::isFirst).toList();
+        List<Event> seconds = firsts.isEmpty() ? List.of()
+            : course.events(asked.things().two()).stream().filter(asked::isSecond).toList();
         return firsts.stream().anyMatch(each -> seconds.stream().anyMatch(other -> each.meets(other)
-            && !(asked.twice() && each == other && (asked.apart() || each.kind().adds())) && !(asked.publishes() && isPublished(each, other))));
+            && !asked.isFoundTwice(each, other) && !(asked.publishes() && isPublished(each, other))));
     }
 
     /** Whether data is only looked at where what publishes it tells of it. */

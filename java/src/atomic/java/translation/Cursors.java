@@ -6,7 +6,9 @@ import com.sun.source.tree.ClassTree;
 import com.sun.source.tree.ExpressionTree;
 import com.sun.source.tree.MethodTree;
 import com.sun.source.tree.Tree;
+import java.util.HashMap;
 import java.util.List;
+import java.util.Map;
 import javax.lang.model.element.Modifier;
 import javax.lang.model.element.TypeElement;
 import javax.lang.model.element.VariableElement;
@@ -14,13 +16,20 @@ import javax.lang.model.element.VariableElement;
 /**
  * The own fields of an iterator, such as where it stands, and of a builder. By the habit of Java's libraries one thread walks
  * with an iterator, and whoever hands it to another one hands it over for good: {@code Spliterator} says so, and no iterator of
- * {@code java.util} is safe otherwise. The same is so of a builder. So a look at such a field is as good as one at a local. Nothing keeps a caller from
- * doing otherwise: so each of them counts as a step, and only where what is certain counts it doesn't. A field that is
- * volatile, that has a guard, that code outside touches, or that is touched with the iterator's own monitor held, says that
- * several threads come.
+ * {@code java.util} is safe otherwise. The same is so of a builder. So a look at such a field is as good as one at a local.
+ * Nothing keeps a caller from doing otherwise: so each of them counts as a step, and only where what is certain counts it
+ * doesn't. A field that is volatile, that has a guard, that code outside touches, or that is touched with the iterator's own
+ * monitor held, says that several threads come.
  */
-record Cursors(Services services) {
+final class Cursors {
     private static final List<String> WALKS = List.of("java.util.Iterator", "java.util.Enumeration", "java.util.Spliterator");
+
+    private final Services services;
+    private final Map<TypeElement, Boolean> known = new HashMap<>();
+
+    Cursors(Services services) {
+        this.services = services;
+    }
 
     /** Whether to touch a field, or what it holds, is no step, where only what is certain counts; where it is one, a hint. */
     boolean leavesOut(VariableElement field, Tree at) {
@@ -34,14 +43,19 @@ record Cursors(Services services) {
 
     private boolean isOwn(VariableElement field) {
         return field.getKind().isField() && !Families.isStatic(field) && !field.getModifiers().contains(Modifier.VOLATILE)
-            && field.getEnclosingElement() instanceof TypeElement owner && walks(owner)
+            && field.getEnclosingElement() instanceof TypeElement owner && isOfOne(owner)
             && !services.fields().guards().isNamed(field) && !services.uses().isReflected(field)
             && services.uses().of(field).stream().allMatch(use -> isWithin(use, owner));
     }
 
-    /** Whether a class is a builder by its name, an iterator, or what iterators alone are made of: an abstract one of which each heir is one. */
+    /** Whether one thread alone has an object of a class: a builder by its name, or an iterator. */
+    private boolean isOfOne(TypeElement owner) {
+        return known.computeIfAbsent(owner, key -> key.getSimpleName().toString().endsWith("Builder") || walks(key));
+    }
+
+    /** Whether a class is an iterator, or what iterators alone are made of: an abstract one of which each heir is one. */
     private boolean walks(TypeElement owner) {
-        if (owner.getSimpleName().toString().endsWith("Builder") || WALKS.stream().map(services.attribution().elements()::getTypeElement).anyMatch(each -> isBelow(owner, each))) {
+        if (WALKS.stream().map(services.attribution().elements()::getTypeElement).anyMatch(each -> isBelow(owner, each))) {
             return true;
         }
         List<TypeElement> heirs = services.program().classes().stream().map(JavaClass::symbol)

@@ -101,7 +101,8 @@ record Questions(Services services, Regions regions) {
         List<? extends StatementTree> all = method.tree().getBody().getStatements();
         boolean whole = method.symbol().getModifiers().contains(Modifier.SYNCHRONIZED);
         List<? extends StatementTree> inside = whole ? all : regions.inside(all, true);
-        if (inside == null || inside.isEmpty() || !(inside.get(0) instanceof IfTree branch) || branch.getElseStatement() != null) {
+        if (inside == null || inside.isEmpty() || !(inside.get(0) instanceof IfTree branch)
+                || branch.getElseStatement() != null) {
             return null;
         }
         List<? extends StatementTree> then = Tests.statements(branch.getThenStatement());

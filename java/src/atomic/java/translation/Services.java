@@ -35,6 +35,7 @@ final class Services {
     private final Functions functions;
     private final Computing computing;
     private final Immutables immutables = new Immutables(this);
+    private final Cursors cursors = new Cursors(this);
     private final Map<String, Method> helpers = new HashMap<>();
     private final Facts facts = new Facts();
     private final Set<VariableElement> changed = new HashSet<>();
@@ -110,6 +111,10 @@ final class Services {
     /** Of library classes that were asked for, whether some class of the sources is one of them. */
     Map<Element, Boolean> atHand() {
         return atHand;
+    }
+
+    Cursors cursors() {
+        return cursors;
     }
 
     StableLooks stable() {

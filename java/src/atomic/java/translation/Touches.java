@@ -86,7 +86,8 @@ record Touches(Services services) {
         if (name.equals("get") && call.getArguments().isEmpty() || LOOKING.contains(name)) {
             return Touch.Kind.LOOK;
         }
-        return FINDING.contains(name) ? Touch.Kind.FIND : ADDING.contains(name) || adds(name, call) || raises(name, call) ? Touch.Kind.ADD
+        boolean adds = ADDING.contains(name) || adds(name, call) || raises(name, call);
+        return FINDING.contains(name) ? Touch.Kind.FIND : adds ? Touch.Kind.ADD
             : UPDATING.contains(name) ? Touch.Kind.UPDATE
             : COMPARING.contains(name) || Attempt.isOfKey(call) ? Touch.Kind.COMPARE : Touch.Kind.CHANGE;
     }
