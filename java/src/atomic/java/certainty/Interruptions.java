@@ -208,10 +208,10 @@ public final class Interruptions {
     /**
      * Whether a method that takes a lock which is held around the two events changes the field that both touch while it holds
      * none of these: it may have come that far before the first event, whatever it does then. Of an object that changes as a
-     * whole, such as an atomic counter, what was asked may still hold.
+     * whole, such as an atomic counter, what was asked may still hold; and two nodes are rarely the same one.
      */
     private static boolean changesOutside(Course course, Event one, Event two, List<Event.Hold> around) {
-        return !one.writes() && one.thing() instanceof Field && one.isSame(two)
+        return !one.writes() && one.thing() instanceof Field field && !field.ofNodes() && one.isSame(two)
             && course.events(one.thing()).stream().anyMatch(each -> each.writes()
                 && each.held().stream().noneMatch(hold -> around.stream().anyMatch(hold::keepsOut)));
     }
