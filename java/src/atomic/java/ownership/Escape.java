@@ -29,7 +29,6 @@ import java.util.function.Predicate;
 import javax.lang.model.element.Element;
 import javax.lang.model.element.ElementKind;
 import javax.lang.model.element.ExecutableElement;
-import javax.lang.model.element.TypeElement;
 import javax.lang.model.element.VariableElement;
 import javax.lang.model.type.ArrayType;
 import javax.lang.model.type.DeclaredType;
@@ -288,7 +287,7 @@ public final class Escape {
 
     /** What the table says of a library call. */
     public Choice choose(ExpressionTree select, ExecutableElement symbol) {
-        if (isAccessor(symbol)) {
+        if (program.isAccessor(symbol)) {
             return Choice.ACCESSOR;
         }
         if (attribution.parent(select) instanceof MethodInvocationTree call && spreads(call, symbol)) {
@@ -306,13 +305,6 @@ public final class Escape {
             && call.getArguments().size() == 1 && attribution.type(call.getArguments().get(0)) instanceof ArrayType given
             && !(given.getComponentType().getKind().isPrimitive() && symbol.getEnclosingElement().toString()
                 .equals("java.util.stream.Stream"));
-    }
-
-    /** Whether a method is a record's own, which nobody wrote: it gives a part that never changes. */
-    public boolean isAccessor(ExecutableElement symbol) {
-        return symbol.getEnclosingElement() instanceof TypeElement home && home.getKind() == ElementKind.RECORD
-            && program.find(home) != null && program.method(symbol) == null && symbol.getParameters().isEmpty()
-            && home.getRecordComponents().stream().anyMatch(each -> each.getSimpleName().equals(symbol.getSimpleName()));
     }
 
     private boolean isBorrowed(NewClassTree made) {

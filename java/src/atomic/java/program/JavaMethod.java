@@ -4,6 +4,7 @@ import atomic.java.skeleton.Place;
 import com.sun.source.tree.MethodTree;
 import javax.lang.model.element.ExecutableElement;
 import javax.lang.model.element.Modifier;
+import javax.lang.model.type.TypeKind;
 
 /** A method or constructor of the sources. */
 public record JavaMethod(ExecutableElement symbol, MethodTree tree, JavaClass owner, Place place) {
@@ -48,6 +49,11 @@ public record JavaMethod(ExecutableElement symbol, MethodTree tree, JavaClass ow
     /** Whether a class below may have one of its own in its place. */
     public boolean isVirtual() {
         return !isStatic() && !isConstructor() && !isPrivate();
+    }
+
+    /** Whether it gives its caller nothing. */
+    public boolean givesNothing() {
+        return symbol.getReturnType().getKind() == TypeKind.VOID;
     }
 
     /** Whether serialisation calls it to fill an object that nobody else knows yet. */

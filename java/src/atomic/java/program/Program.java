@@ -159,6 +159,13 @@ public final class Program {
         return methods.get(symbol);
     }
 
+    /** Whether a method is a record's own, which nobody wrote: it gives a part that never changes. */
+    public boolean isAccessor(ExecutableElement symbol) {
+        return symbol.getEnclosingElement() instanceof TypeElement home && home.getKind() == ElementKind.RECORD
+            && find(home) != null && method(symbol) == null && symbol.getParameters().isEmpty()
+            && home.getRecordComponents().stream().anyMatch(each -> each.getSimpleName().equals(symbol.getSimpleName()));
+    }
+
     /** All methods of a name. */
     public List<JavaMethod> named(CharSequence name) {
         return byName.getOrDefault(name.toString(), List.of());

@@ -41,6 +41,12 @@ public final class Guards {
         return program.attribution().element(tree);
     }
 
+    /** Whether the annotations of some field name a guard. */
+    public boolean areNamed() {
+        return program.classes().stream().flatMap(each -> each.symbol().getEnclosedElements().stream())
+            .anyMatch(member -> member instanceof VariableElement field && isNamed(field));
+    }
+
     /** Whether the annotations of a field name a guard. */
     public boolean isNamed(VariableElement field) {
         return !words(field, List.of("GuardedBy")).isEmpty();

@@ -112,7 +112,7 @@ final class LibraryCalls {
     }
 
     private Choice choose(ExpressionTree before, ExecutableElement symbol, boolean isStatic) {
-        if (services.ownership().escape().isAccessor(symbol)) {
+        if (services.program().isAccessor(symbol)) {
             return Choice.ACCESSOR;
         }
         String name = Library.key(symbol);

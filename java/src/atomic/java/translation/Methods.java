@@ -25,7 +25,6 @@ import java.util.TreeMap;
 import java.util.TreeSet;
 import javax.lang.model.element.Modifier;
 import javax.lang.model.element.VariableElement;
-import javax.lang.model.type.TypeKind;
 
 /**
  * The methods of the skeleton. Each Java method has one; more of the same code are made where a constructor or another
@@ -126,8 +125,7 @@ public final class Methods {
 
     /** Whether a method gives its caller nothing. */
     public boolean givesNothing(Method method) {
-        JavaMethod java = judged.get(method);
-        return java != null && java.symbol().getReturnType().getKind() == TypeKind.VOID;
+        return judged.containsKey(method) && judged.get(method).givesNothing();
     }
 
     /** Whether a Java method says that it is atomic. */
@@ -137,8 +135,7 @@ public final class Methods {
 
     /** Whether some field says which lock guards it. */
     public boolean namesGuards() {
-        return services.program().classes().stream().flatMap(each -> each.symbol().getEnclosedElements().stream())
-            .anyMatch(member -> member instanceof VariableElement field && services.fields().guards().isNamed(field));
+        return services.fields().guards().areNamed();
     }
 
     /** The Java method that things noted of a method are noted of. */
