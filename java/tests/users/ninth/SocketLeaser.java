@@ -23,7 +23,7 @@ abstract class LeaseBase<R> {
 
     protected abstract R create();
 
-    public Optional<R> borrow() { // accepted
+    public Optional<R> borrow() { // refused: alarm: the expert sees no interruption
         lock.lock();
         try {
             if (shut) return Optional.empty();
@@ -36,7 +36,7 @@ abstract class LeaseBase<R> {
         }
     }
 
-    public boolean giveBack(R r) { // accepted
+    public boolean giveBack(R r) { // refused: alarm: the expert sees no interruption
         lock.lock();
         try {
             if (!out.remove(r)) return false;
@@ -54,7 +54,7 @@ abstract class LeaseBase<R> {
         } finally { lock.unlock(); }
     }
 
-    public void shutdown() { // accepted: one idle: after shut=true and before clear, another thread sees isShut() true and then stats() with idle 1; a whole shutdown leaves idle 0
+    public void shutdown() { // refused: one idle: after shut=true and before clear, another thread sees isShut() true and then stats() with idle 1; a whole shutdown leaves idle 0
         shut = true;
         lock.lock();
         try {

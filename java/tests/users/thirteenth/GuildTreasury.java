@@ -25,7 +25,7 @@ abstract class Treasury {
         }
     }
 
-    public void deposit(long amount) { // accepted
+    public void deposit(long amount) { // refused: alarm: the expert sees no interruption
         lock.lock();
         try {
             gold += amount;
@@ -35,7 +35,7 @@ abstract class Treasury {
         }
     }
 
-    public boolean spend(long amount) { // accepted
+    public boolean spend(long amount) { // refused: alarm: the expert sees no interruption
         lock.lock();
         try {
             if (gold < amount) return false;

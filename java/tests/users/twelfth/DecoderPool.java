@@ -77,14 +77,14 @@ abstract class ResourcePool<R> {
 
   protected abstract R create();
 
-  public R borrow() throws InterruptedException { // accepted
+  public R borrow() throws InterruptedException { // refused: alarm: the expert sees no interruption
     synchronized (mutex) {
       while (idle.isEmpty() && live == limit) mutex.wait();
       return idle.isEmpty() ? made() : idle.pop();
     }
   }
 
-  public R borrow(long timeout, TimeUnit unit) throws InterruptedException { // accepted
+  public R borrow(long timeout, TimeUnit unit) throws InterruptedException { // refused: alarm: the expert sees no interruption
     long end = System.nanoTime() + unit.toNanos(timeout);
     synchronized (mutex) {
       while (idle.isEmpty() && live == limit) {
@@ -96,14 +96,14 @@ abstract class ResourcePool<R> {
     }
   }
 
-  public void giveBack(R resource) { // accepted
+  public void giveBack(R resource) { // refused: alarm: the expert sees no interruption
     synchronized (mutex) {
       idle.push(resource);
       mutex.notify();
     }
   }
 
-  public boolean grow() { // accepted
+  public boolean grow() { // refused: alarm: the expert sees no interruption
     synchronized (mutex) {
       if (live == limit) return false;
       giveBack(made());
