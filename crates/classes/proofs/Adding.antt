@@ -24,10 +24,10 @@ class_next classes i class within at =
     drop-cons classes i class within ∙ ap (λ z. z ∷ drop (suc i) classes) (sym at) ∙ ap (λ n. class ∷ drop n classes) next_is
 
 -- the parts with one class more
-pub one_added : (tree : ProgramTree) (aboves lent : List (Option ℕ)) (names : List (List ℕ)) (rest others : List Class) (class : Class) (before after whole : PartsData)
-    → rest ≡ class ∷ others → lent ≡ aboves → with_classes tree aboves names before (map class_of rest) ≡ whole
-    → after ≡ with_class tree lent names (class_of class) before → with_classes tree aboves names after (map class_of others) ≡ whole
-one_added tree aboves lent names rest others class before after whole split same so_far is =
-    ap (λ p. with_classes tree aboves names p (map class_of others)) (is ∙ ap (λ z. with_class tree z names (class_of class) before) same)
+pub one_added : (tree : ProgramTree) (aboves : List (Option ℕ)) (names : List (List ℕ)) (rest others : List Class) (class : Class) (before after whole : PartsData)
+    → rest ≡ class ∷ others → with_classes tree aboves names before (map class_of rest) ≡ whole
+    → after ≡ with_class tree aboves names (class_of class) before → with_classes tree aboves names after (map class_of others) ≡ whole
+one_added tree aboves names rest others class before after whole split so_far is =
+    ap (λ p. with_classes tree aboves names p (map class_of others)) is
     ∙ ap (λ z. with_classes tree aboves names before (map class_of z)) (sym split)
     ∙ so_far

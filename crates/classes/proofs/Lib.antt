@@ -4,6 +4,8 @@ mod Fronts
 mod Meanings
 mod Places
 mod Climbing
+mod ClimbLemmas
+mod FieldLines
 mod Rows
 pub mod Parted
 mod Repeats

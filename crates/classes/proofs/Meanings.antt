@@ -2,7 +2,7 @@
 use Rattle.std.proofs.Common.{◌≡◌, ℕ, ◌-◌, ◌<◌, zero, suc, Bool, false, List, [], ◌∷◌, ◌++◌, Option, Some, None, map, drop, length, refl, ap, sym, ◌∙◌, arith}
 use Rattle.std.specs.Option.{option_map, option_or}
 use Rattle.syntax.specs.Trees.{ProgramTree}
-use Rattle.classes.specs.Lines.{ancestors, above, members_at}
+use Rattle.classes.specs.Lines.{ancestors, members_at}
 use Rattle.classes.specs.Overriding.{FieldPlace, FoundField, are_same_places, field_from, field_along}
 use Rattle.classes.proofs.Climbing.{next_ancestor}
 
@@ -11,11 +11,11 @@ abbrev pub put_before : {A : Type 0} → List A → Option (List A) → Option (
 put_before xs o = option_map (λ ys. xs ++ ys) o
 
 -- where a class has no field of a name, one above it may have it
-pub field_later : (tree : ProgramTree) (n c : ℕ) (name : List ℕ) (all : Option FoundField) → 0 < n → field_along tree (ancestors (above tree) n (Some c)) name ≡ all
-    → None ≡ field_from c 0 (members_at tree c) name → field_along tree (ancestors (above tree) (n - 1) (above tree c)) name ≡ all
-field_later tree n c name all some so_far none =
-    ap (λ o. option_or o (field_along tree (ancestors (above tree) (n - 1) (above tree c)) name)) none
-    ∙ ap (λ ks. field_along tree ks name) (sym (next_ancestor (above tree) n c some))
+pub field_later : (tree : ProgramTree) (step : ℕ → Option ℕ) (n c : ℕ) (name : List ℕ) (all : Option FoundField) → 0 < n → field_along tree (ancestors step n (Some c)) name ≡ all
+    → None ≡ field_from c 0 (members_at tree c) name → field_along tree (ancestors step (n - 1) (step c)) name ≡ all
+field_later tree step n c name all some so_far none =
+    ap (λ o. option_or o (field_along tree (ancestors step (n - 1) (step c)) name)) none
+    ∙ ap (λ ks. field_along tree ks name) (sym (next_ancestor step n c some))
     ∙ so_far
 
 some_left : {X : Type 0} (xs : List X) (i : ℕ) → i < length xs → (x : X) × (ys : List X) × (drop i xs ≡ x ∷ ys)

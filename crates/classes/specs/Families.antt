@@ -1,5 +1,5 @@
 -- What the code keeps of the classes of a program, and how it finds them by their names.
-use Rattle.std.specs.Prelude.{◌≡◌, ◌⊎◌, ℕ, ◌+◌, List, [], ◌∷◌, ◌++◌, Option, Some, None, Vec, map, flat_map, slice_get, if◌then◌else◌}
+use Rattle.std.specs.Prelude.{◌≡◌, ◌⊎◌, ℕ, ◌+◌, List, [], ◌∷◌, ◌++◌, Option, Some, None, Vec, map, flat_map, length, slice_get, if◌then◌else◌}
 use Rattle.std.specs.Option.{option_map}
 use Rattle.std.specs.declared.alloc.Global.{Global}
 use Rattle.syntax.specs.declared.tree.Name.{Name}
@@ -14,6 +14,8 @@ use Rattle.classes.specs.Names.{has_text, distinct}
 use Rattle.classes.specs.Members.{class_names}
 use Rattle.classes.specs.Own.{all_own_names}
 use Rattle.classes.specs.Lines.{above_in, ancestor_classes, members_at}
+use Rattle.classes.specs.Lines as lines
+use Rattle.classes.specs.Climbs.{AreClimbs}
 use Rattle.classes.specs.Overriding.{FieldPlace, FoundField, LockMeaning, Heading, headings, headings_at}
 
 -- the members of these classes
@@ -44,6 +46,7 @@ pub record IsFamily (f : Family) : Type 0 where
   pub own : f.own.now ≡ all_own_names (tree_of f)
   pub firsts : f.firsts.items ≡ first_places (class_names (tree_of f))
   pub above : f.above.items ≡ all_above (tree_of f)
+  pub climbs : AreClimbs (tree_of f) (lines.above (tree_of f)) (length (tree_of f)) f.climbs.items
 
 -- where a field stands, as plain data: the number of its class, and its place among the fields of that class
 abbrev pub place_data : code.FieldPlace → FieldPlace

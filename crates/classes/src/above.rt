@@ -1,27 +1,24 @@
 //! Which class each class extends, and which classes count as `implements Runnable`.
 
-ghost use Rattle.std.specs.Prelude.{◌≡◌, map, IfOk};
+ghost use Rattle.std.specs.Prelude.{◌≡◌, map, length, IfOk};
 ghost use Rattle.syntax.specs.Views.{class_of};
 ghost use Rattle.classes.specs.Lines.{says_runnable};
 ghost use Rattle.classes.specs.Building.{above_named, above_at, counts_among};
+ghost use Rattle.classes.specs.Climbs.{AreClimbs};
 
+use crate::climbs::{Climb, above_at, climb_at};
 use crate::names::NameSet;
-use crate::numbers::number;
-use paths::ClassId;
 use std::alloc::{AllocError as NoMemory, Global};
 use syntax::Class;
 
 /// The class that a class extends, where the classes have these names.
-fn class_above(names: &NameSet, class: &Class) -> Result<Option<ClassId>, NoMemory>
-    ensures { IfOk result (λ above. above ≡ above_named names.now (class_of class.now)) }
+fn class_above(names: &NameSet, class: &Class) -> Option<usize>
+    ensures { result ≡ above_named names.now (class_of class.now) }
 {
-    let Some(name) = &class.above else {
-        return Ok(None);
-    };
-    let Some(index) = names.number_of(name.text) else {
-        return Ok(None);
-    };
-    Ok(Some(ClassId(number(index)?)))
+    match &class.above {
+        Some(name) => names.number_of(name.text),
+        None => None,
+    }
 }
 
 /// The class that each of these classes extends.
@@ -29,49 +26,40 @@ pub(crate) fn classes_above(
     alloc: Global,
     names: &NameSet,
     classes: &[Class],
-) -> Result<Vec<Option<ClassId>>, NoMemory>
+) -> Result<Vec<Option<usize>>, NoMemory>
     ensures { IfOk result (λ aboves. aboves.items ≡ map (above_named names.now) (map class_of classes.now)) }
 {
     let mut aboves = Vec::new(alloc);
     for class in classes {
-        let above = class_above(names, class)?;
-        aboves.push(above)?;
+        aboves.push(class_above(names, class))?;
     }
     Ok(aboves)
 }
 
-/// The class above one, where this is what stands above each.
-pub(crate) fn above_at(aboves: &[Option<ClassId>], class: ClassId) -> Option<ClassId>
-    ensures { result ≡ above_at aboves.now class }
-{
-    match aboves.get(class.0 as usize) {
-        Some(above) => *above,
-        None => None,
-    }
-}
-
-fn says_runnable(classes: &[Class], class: ClassId) -> bool
+fn says_runnable(classes: &[Class], class: usize) -> bool
     ensures { result ≡ says_runnable (map class_of classes.now) class }
 {
-    match classes.get(class.0 as usize) {
+    match classes.get(class) {
         Some(class) => class.runnable,
         None => false,
     }
 }
 
-/// Whether a class or an ancestor of it says `implements Runnable`.
-pub(crate) fn counts_runnable(classes: &[Class], aboves: &[Option<ClassId>], class: ClassId) -> bool
+/// Whether a class or an ancestor of it says `implements Runnable`. What stands above each, and what is met there, is known.
+pub(crate) fn counts_runnable(
+    classes: &[Class],
+    aboves: &[Option<usize>],
+    climbs: &[Climb],
+    class: usize,
+) -> bool
+    requires { AreClimbs (map class_of classes.now) (above_at aboves.now) (length (map class_of classes.now)) climbs.now }
     ensures { result ≡ counts_among (map class_of classes.now) aboves.now class }
 {
-    let mut at = class;
-    for _ in 0..classes.len() + 1 {
-        if says_runnable(classes, at) {
-            return true;
-        }
-        let Some(above) = above_at(aboves, at) else {
-            return false;
-        };
-        at = above;
+    if says_runnable(classes, class) {
+        return true;
     }
-    false
+    match above_at(aboves, class) {
+        Some(above) => climb_at(climbs, above).says_runnable,
+        None => false,
+    }
 }

@@ -1,13 +1,15 @@
 //! Builds the table of a program without faults.
 
-ghost use Rattle.std.specs.Prelude.{◌≡◌, ◌+◌, ◌^◌, ◌<◌, ◌++◌, map, option_map, IfOk, OnOk};
+ghost use Rattle.std.specs.Prelude.{◌≡◌, ◌+◌, ◌^◌, ◌<◌, ◌++◌, map, length, option_map, IfOk, OnOk};
 ghost use Rattle.syntax.specs.Views.{member_of, class_of};
 ghost use Rattle.classes.specs.Own.{own_names, all_own_names};
 ghost use Rattle.classes.specs.Table.{type_of, param_of, fields_of, methods_of};
 ghost use Rattle.classes.specs.Views.{class_data, method_data};
-ghost use Rattle.classes.specs.Building.{parts_data, class_entry_of, with_class, parts_from};
+ghost use Rattle.classes.specs.Building.{parts_data, above_at, class_entry_of, counts_among, with_class, parts_from};
+ghost use Rattle.classes.specs.Climbs.{AreClimbs};
 
-use crate::above::{above_at, classes_above, counts_runnable};
+use crate::above::{classes_above, counts_runnable};
+use crate::climbs::{Climb, above_at, all_climbs};
 use crate::entries::{ClassEntry, FieldEntry, MethodEntry, ParamEntry};
 use crate::names::NameSet;
 use crate::numbers::number;
@@ -190,6 +192,37 @@ fn class_entry<'a>(
     })
 }
 
+fn id_of(class: Option<usize>) -> Result<Option<ClassId>, NoMemory>
+    ensures { IfOk result (λ id. id ≡ class) }
+{
+    match class {
+        Some(class) => Ok(Some(ClassId(number(class)?))),
+        None => Ok(None),
+    }
+}
+
+/// The classes of a table, what stands above each, and what is met there.
+#[derive(Drop)]
+struct Lineup<'p, 'a> {
+    classes: &'p [Class<'a>],
+    aboves: Vec<Option<usize>>,
+    climbs: Vec<Climb>,
+}
+
+impl<'p, 'a> Lineup<'p, 'a> {
+    fn counts_runnable(&self, class: usize) -> bool
+        requires { AreClimbs (map class_of self.now.classes.now) (above_at self.now.aboves.items) (length (map class_of self.now.classes.now)) self.now.climbs.items }
+        ensures { result ≡ counts_among (map class_of self.now.classes.now) self.now.aboves.items class }
+    {
+        counts_runnable(
+            self.classes,
+            self.aboves.as_slice(),
+            self.climbs.as_slice(),
+            class,
+        )
+    }
+}
+
 /// The parts of a table while classes are added.
 #[derive(Drop)]
 pub(crate) struct TableParts<'a> {
@@ -204,17 +237,19 @@ impl<'a> TableParts<'a> {
         &mut self,
         alloc: Global,
         names: &NameSet,
-        classes: &[Class],
-        aboves: &[Option<ClassId>],
+        lineup: &Lineup,
         class: &Class<'a>,
         own: OwnNames<'a>,
     ) -> Result<(), NoMemory>
-        requires { own ≡ own_names (class_of class.now) }
-        ensures { OnOk result (parts_data self.new ≡ with_class (map class_of classes.now) aboves.now names.now (class_of class.now) (parts_data self.old)) }
+        requires own { own ≡ own_names (class_of class.now) }
+        requires climbs { AreClimbs (map class_of lineup.now.classes.now) (above_at lineup.now.aboves.items) (length (map class_of lineup.now.classes.now)) lineup.now.climbs.items }
+        ensures { OnOk result (parts_data self.new
+            ≡ with_class (map class_of lineup.now.classes.now) lineup.now.aboves.items names.now (class_of class.now) (parts_data self.old)) }
     {
-        let id = ClassId(number(self.classes.len())?);
-        let above = above_at(aboves, id);
-        let runnable = counts_runnable(classes, aboves, id);
+        let place = self.classes.len();
+        let id = ClassId(number(place)?);
+        let above = id_of(above_at(lineup.aboves.as_slice(), place))?;
+        let runnable = lineup.counts_runnable(place);
         let first_field = number(self.fields.len())?;
         let first_method = number(self.methods.len())?;
         let members = class.members.as_slice();
@@ -237,6 +272,12 @@ pub(crate) fn parts_of<'a>(
     ensures { IfOk result (λ p. parts_data p ≡ parts_from names.now (map class_of classes.now)) }
 {
     let aboves = classes_above(alloc, names, classes)?;
+    let climbs = all_climbs(alloc, classes, aboves.as_slice())?;
+    let lineup = Lineup {
+        classes,
+        aboves,
+        climbs,
+    };
     let mut parts = TableParts {
         classes: Vec::new(alloc),
         fields: Vec::new(alloc),
@@ -247,7 +288,7 @@ pub(crate) fn parts_of<'a>(
         let Some(class) = classes.get(number) else {
             return Ok(parts);
         };
-        parts.add(alloc, names, classes, aboves.as_slice(), class, own)?;
+        parts.add(alloc, names, &lineup, class, own)?;
         number += 1;
     }
     Ok(parts)

@@ -1,15 +1,15 @@
 //! Finds the first fault of a program's classes.
 
-ghost use Rattle.std.specs.Prelude.{◌≡◌, ◌⊎◌, ℕ, true, List, ◌++◌, ◌∷◌, [], None, map, IfOk, OnOk, OnErr, if◌then◌else◌};
-ghost use Rattle.std.specs.List.{list_any};
+ghost use Rattle.std.specs.Prelude.{◌≡◌, ◌⊎◌, ◌||◌, ℕ, true, not, List, ◌++◌, ◌∷◌, [], None, map, IfOk, OnOk, OnErr, if◌then◌else◌};
 ghost use Rattle.syntax.specs.Views.{member_of, class_of, program_tree};
 ghost use Rattle.classes.specs.Names.{has_text, with_text, distinct};
 ghost use Rattle.classes.specs.declared.fault.ClassFault.TheVariants as kind;
-ghost use Rattle.classes.specs.Members.{class_names, is_entry};
+ghost use Rattle.classes.specs.Members.{class_names};
 ghost use Rattle.classes.specs.Lines.{all_members, members_at};
+ghost use Rattle.classes.specs.Climbs.{HaveSameFields};
 ghost use Rattle.classes.specs.Lines as lines;
 ghost use Rattle.classes.specs.Alike.{AreAllAlike};
-ghost use Rattle.classes.specs.Faults.{twice_faults, override_faults, missing_run, circle_faults, other_faults, class_faults, class_faults_from, is_main, missing_main, all_class_faults};
+ghost use Rattle.classes.specs.Faults.{twice_faults, override_faults, circle_faults, other_faults, class_faults, class_faults_from, is_main, missing_main, all_class_faults};
 ghost use Rattle.classes.specs.Families.{members_along, first_places, tree_of, IsFamily, rows_data, class_headings, AreHeadings};
 ghost use Rattle.classes.specs.Own.{all_own_names};
 ghost use Rattle.classes.specs.Noted.{noted};
@@ -25,62 +25,20 @@ use crate::names::NameSet;
 use crate::numbered_fields::field_at;
 use crate::overriding::{Heading, headings_where_inherited, note_overrides};
 use crate::own::OwnNames;
+use crate::starts::have_entry;
 use std::alloc::{AllocError as NoMemory, Global};
-use syntax::{Class, Member, Name, Program};
+use syntax::{Class, Name, Program};
 
-/// Whether there is a void method of this name, without parameters and without `requires`.
-fn has_entry(members: &[Member], text: &str) -> bool
-    ensures { result ≡ list_any (is_entry text.now) (map member_of members.now) }
-{
-    for member in members {
-        if let Member::Method {
-            result: None,
-            name,
-            params,
-            requires_: locks,
-            ..
-        } = member
-        {
-            if name.text == text && params.is_empty() && locks.is_empty() {
-                return true;
-            }
-        }
-    }
-    false
-}
-
-fn class_has_entry(classes: &[Class], number: usize, text: &str) -> bool
-    ensures { result ≡ list_any (is_entry text.now) (members_at (map class_of classes.now) number) }
-{
-    match classes.get(number) {
-        Some(class) => has_entry(class.members.as_slice(), text),
-        None => false,
-    }
-}
-
-/// Whether one of these classes has such a method.
-fn have_entry(classes: &[Class], order: &[usize], text: &str) -> bool
-    ensures { result ≡ list_any (is_entry text.now) (members_along (map class_of classes.now) order.now) }
-{
-    for number in order {
-        if class_has_entry(classes, *number, text) {
-            return true;
-        }
-    }
-    false
-}
-
-/// The fault of a class that counts as `implements Runnable`, where none of these classes has a `run`.
+/// The fault of a class that counts as `implements Runnable` and has no `run`.
 fn note_missing_run(
     class: &Name,
     counts: bool,
-    classes: &[Class],
-    order: &[usize],
+    has_run: bool,
     first: Option<ClassFault>,
 ) -> Option<ClassFault>
-    ensures { result ≡ noted first (missing_run class.now counts (members_along (map class_of classes.now) order.now)) }
+    ensures { result ≡ noted first (if not counts || has_run then [] else kind.NoRun class.now.at ∷ []) }
 {
-    if !counts || have_entry(classes, order, "run") {
+    if !counts || has_run {
         first
     } else {
         first_of(first, ClassFault::NoRun(class.at))
@@ -110,29 +68,27 @@ struct Inheritance<'f, 'p, 'a> {
 /// The faults of methods that override one that they may not override. Where all are alike with the nearest, there are none.
 fn note_bad_overrides(
     inheritance: &Inheritance,
-    line: &[usize],
     number: usize,
     first: Option<ClassFault>,
-) -> Option<ClassFault>
+) -> Result<Option<ClassFault>, NoMemory>
+    requires family { IsFamily inheritance.now.family.now }
     requires alike { inheritance.now.are_alike ≡ true → AreAllAlike (tree_of inheritance.now.family.now) (class_headings (rows_data inheritance.now.headings.now)) }
-    requires line { line.now ≡ lines.ancestor_classes (tree_of inheritance.now.family.now) number }
     ensures { let methods = class_headings (rows_data inheritance.now.headings.now) in
-        result ≡ noted first (override_faults methods line.now (methods number)) }
+        IfOk result (λ f. f ≡ noted first (override_faults methods (lines.ancestor_classes (tree_of inheritance.now.family.now) number) (methods number))) }
 {
     if inheritance.are_alike {
-        return first;
+        return Ok(first);
     }
-    note_overrides(inheritance.headings, line, number, first)
+    let line = inheritance.family.line(inheritance.alloc, number)?;
+    Ok(note_overrides(inheritance.headings, line.as_slice(), number, first))
 }
 
-/// The faults of a class but for the names of its fields. It inherits from the classes of this line, and it has the members
-/// of these classes in order.
+/// The faults of a class but for the names of its fields. It has the fields of these classes in order.
 #[tactic(auto, using(crate::proofs::Noting::noted_append))]
 fn note_others(
     inheritance: &Inheritance,
     number: usize,
     class: &Class,
-    line: &[usize],
     order: &[usize],
     first: Option<ClassFault>,
 ) -> Result<Option<ClassFault>, NoMemory>
@@ -140,8 +96,7 @@ fn note_others(
     requires rows { AreHeadings (tree_of inheritance.now.family.now) (class_headings (rows_data inheritance.now.headings.now)) }
     requires alike { inheritance.now.are_alike ≡ true → AreAllAlike (tree_of inheritance.now.family.now) (class_headings (rows_data inheritance.now.headings.now)) }
     requires own { members_at (tree_of inheritance.now.family.now) number ≡ map member_of class.now.members.items }
-    requires line { line.now ≡ lines.ancestor_classes (tree_of inheritance.now.family.now) number }
-    requires order { members_along (tree_of inheritance.now.family.now) order.now ≡ all_members (tree_of inheritance.now.family.now) number }
+    requires order { HaveSameFields (members_along (tree_of inheritance.now.family.now) order.now) (all_members (tree_of inheritance.now.family.now) number) }
     ensures { IfOk result (λ f. f ≡ noted first (other_faults (tree_of inheritance.now.family.now) number (class_of class.now))) }
 {
     let alloc = inheritance.alloc;
@@ -153,10 +108,11 @@ fn note_others(
     let found = note_members(alloc, family.names, members, found)?;
     let found = note_missing_constructor(&class.name, classes, order, members, found);
     let found = note_constructors(alloc, &class.name, classes, order, members, found)?;
-    let found = note_missing_run(&class.name, family.counts(number), classes, order, found);
+    let has_run = family.has_run(number, members);
+    let found = note_missing_run(&class.name, family.counts(number), has_run, found);
     let found = note_excess(field_at(classes, order, MOST_FIELDS), found);
     let found = note_circle(&class.name, family.is_on_circle(number), found);
-    Ok(note_bad_overrides(inheritance, line, number, found))
+    note_bad_overrides(inheritance, number, found)
 }
 
 /// The faults of a class that extends none.
@@ -182,7 +138,7 @@ fn note_alone<'p, 'a>(
         members,
         first,
     )?;
-    note_others(inheritance, number, class, &[], &[number], found)
+    note_others(inheritance, number, class, &[number], found)
 }
 
 /// The faults of a class.
@@ -218,7 +174,9 @@ fn note_heir<'p, 'a>(
     ensures { IfOk result (λ f. f ≡ noted first (class_faults (tree_of inheritance.now.family.now) number (class_of class.now))) }
 {
     let members = class.members.as_slice();
-    let line = inheritance.family.line(inheritance.alloc, number)?;
+    let line = inheritance
+        .family
+        .line_with_fields(inheritance.alloc, number)?;
     let mut order = reversed(inheritance.alloc, line.as_slice())?;
     let found = note_fields(
         inheritance.alloc,
@@ -229,14 +187,7 @@ fn note_heir<'p, 'a>(
         first,
     )?;
     order.push(number)?;
-    note_others(
-        inheritance,
-        number,
-        class,
-        line.as_slice(),
-        order.as_slice(),
-        found,
-    )
+    note_others(inheritance, number, class, order.as_slice(), found)
 }
 
 fn note_classes(
@@ -350,6 +301,9 @@ fn note_all<'p, 'a>(
     ensures { IfOk result (λ f. f ≡ noted (noted first (class_faults_from (map class_of classes.entry.now) 0 (map class_of classes.entry.now)))
         (missing_main (map class_of classes.entry.now))) }
 {
+    if classes.is_empty() {
+        return Ok(first_of(first, ClassFault::NoMain));
+    }
     let family = Family::new(alloc, classes, names, own, firsts)?;
     let headings = headings_where_inherited(alloc, &family)?;
     let inheritance = Inheritance {

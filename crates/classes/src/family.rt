@@ -1,18 +1,23 @@
 //! Which class stands above which, and what each class inherits.
 
-ghost use Rattle.std.specs.Prelude.{◌≡◌, Some, reverse, map, position, bytes_eq, option_map, option_and_then, slice_get, is_some, IfOk};
+ghost use Rattle.std.specs.Prelude.{◌≡◌, ◌<◌, length, Some, reverse, map, position, bytes_eq, option_map, option_and_then, slice_get, is_some, IfOk};
 ghost use Rattle.std.specs.List.{list_any};
 ghost use Rattle.syntax.specs.Trees.{ProgramTree};
 ghost use Rattle.syntax.specs.Views.{member_of, class_of};
 ghost use Rattle.classes.specs.Members.{class_names, field_names};
 ghost use Rattle.classes.specs.Names.{distinct, has_text, texts_of};
 ghost use Rattle.classes.specs.Own.{all_own_names};
-ghost use Rattle.classes.specs.Lines.{above, above_in, is_on_circle, ancestor_classes, members_at, says_runnable, says_so, class_named};
+ghost use Rattle.classes.specs.Lines.{above, above_in, is_on_circle, ancestor_classes, inherited, all_members, members_at, says_so, class_named};
+ghost use Rattle.classes.specs.Lines as lines;
+ghost use Rattle.classes.specs.Climbs.{climb_of, have_run, fields_above, with_fields};
 ghost use Rattle.classes.specs.Overriding.{class_of_type, field_from, field_named};
 ghost use Rattle.classes.specs.Families.{first_places, all_above, members_along, tree_of, IsFamily, field_data};
 
+use crate::above::counts_runnable;
+use crate::climbs::{Climb, all_climbs, climb_at};
 use crate::names::NameSet;
 use crate::own::OwnNames;
+use crate::starts::has_entry;
 use std::alloc::{AllocError as NoMemory, Global};
 use syntax::{Class, Member, TypeName};
 
@@ -42,6 +47,8 @@ pub(crate) struct Family<'p, 'a> {
     /// For each of these names the first class that has it.
     pub(crate) firsts: Vec<usize>,
     pub(crate) above: Vec<Option<usize>>,
+    /// What as many steps up as there are classes meet from each.
+    pub(crate) climbs: Vec<Climb>,
 }
 
 /// The number of the first class with a name.
@@ -91,6 +98,7 @@ impl<'p, 'a> Family<'p, 'a> {
         own: &'p [OwnNames<'a>],
         firsts: Vec<usize>,
     ) -> Result<Family<'p, 'a>, NoMemory>
+        requires some { 0 < length classes.now }
         requires names { names.now ≡ distinct (class_names (map class_of classes.now)) }
         requires own { own.now ≡ all_own_names (map class_of classes.now) }
         requires firsts { firsts.items ≡ first_places (class_names (map class_of classes.now)) }
@@ -99,12 +107,14 @@ impl<'p, 'a> Family<'p, 'a> {
         ensures names { IfOk result (λ family. family.names.now ≡ names.entry.now) }
     {
         let above = all_above(alloc, classes, names, firsts.as_slice())?;
+        let climbs = all_climbs(alloc, classes, above.as_slice())?;
         Ok(Family {
             classes,
             names,
             own,
             firsts,
             above,
+            climbs,
         })
     }
 
@@ -169,30 +179,20 @@ impl<'p, 'a> Family<'p, 'a> {
         }
     }
 
+    /// What as many steps up from a class as there are classes meet.
+    fn climb(&self, number: usize) -> Climb
+        requires { IsFamily self.now }
+        ensures { result ≡ climb_of (tree_of self.now) (lines.above (tree_of self.now)) (length (tree_of self.now)) number }
+    {
+        climb_at(self.climbs.as_slice(), number)
+    }
+
     /// Whether a class is on or below a circle: going up from it leads on for as many steps as there are classes.
     pub(crate) fn is_on_circle(&self, number: usize) -> bool
         requires { IsFamily self.now }
         ensures { result ≡ is_on_circle (tree_of self.now) number }
     {
-        let mut class = number;
-        let mut steps = self.above.len();
-        while steps > 0 {
-            let Some(above) = self.above(class) else {
-                return false;
-            };
-            class = above;
-            steps -= 1;
-        }
-        true
-    }
-
-    fn says_runnable(&self, number: usize) -> bool
-        ensures { result ≡ says_runnable (tree_of self.now) number }
-    {
-        match self.classes.get(number) {
-            Some(class) => class.runnable,
-            None => false,
-        }
+        self.climb(number).end.is_some()
     }
 
     /// Whether a class or an ancestor of it says `implements Runnable`.
@@ -200,22 +200,75 @@ impl<'p, 'a> Family<'p, 'a> {
         requires { IsFamily self.now }
         ensures { result ≡ says_so (tree_of self.now) number }
     {
-        if self.says_runnable(number) {
+        counts_runnable(
+            self.classes,
+            self.above.as_slice(),
+            self.climbs.as_slice(),
+            number,
+        )
+    }
+
+    /// Whether a class inherits a `run` to begin with.
+    fn inherits_run(&self, number: usize) -> bool
+        requires { IsFamily self.now }
+        ensures { result ≡ have_run (inherited (tree_of self.now) number) }
+    {
+        if self.is_on_circle(number) {
+            return false;
+        }
+        match self.above(number) {
+            Some(above) => self.climb(above).has_run,
+            None => false,
+        }
+    }
+
+    /// Whether a class has a `run` to begin with, own or inherited, where these are its own members.
+    pub(crate) fn has_run(&self, number: usize, members: &[Member]) -> bool
+        requires family { IsFamily self.now }
+        requires members { members_at (tree_of self.now) number ≡ map member_of members.now }
+        ensures { result ≡ have_run (all_members (tree_of self.now) number) }
+    {
+        if self.inherits_run(number) {
             return true;
         }
-        let mut next = self.above(number);
+        has_entry(members, "run")
+    }
+
+    /// The nearest class above a class that declares fields.
+    fn fields_above(&self, number: usize) -> Option<usize>
+        requires { IsFamily self.now }
+        ensures { result ≡ fields_above (tree_of self.now) number }
+    {
+        match self.above(number) {
+            Some(above) => self.climb(above).with_fields,
+            None => None,
+        }
+    }
+
+    /// The classes that a class inherits fields from, the nearest first. On or below a circle there are none.
+    pub(crate) fn line_with_fields(
+        &self,
+        alloc: Global,
+        number: usize,
+    ) -> Result<Vec<usize>, NoMemory>
+        requires { IsFamily self.now }
+        ensures { IfOk result (λ found. found.items ≡ with_fields (tree_of self.now) (ancestor_classes (tree_of self.now) number)) }
+    {
+        let mut line = Vec::new(alloc);
+        if self.is_on_circle(number) {
+            return Ok(line);
+        }
+        let mut next = self.fields_above(number);
         let mut left = self.above.len();
         while left > 0 {
             let Some(class) = next else {
-                return false;
+                return Ok(line);
             };
-            if self.says_runnable(class) {
-                return true;
-            }
-            next = self.above(class);
+            line.push(class)?;
+            next = self.fields_above(class);
             left -= 1;
         }
-        false
+        Ok(line)
     }
 
     /// The classes that a class inherits from, the nearest first. On or below a circle there are none.
@@ -261,8 +314,8 @@ impl<'p, 'a> Family<'p, 'a> {
         if self.is_on_circle(number) {
             return None;
         }
-        let mut next = self.above(number);
-        let mut left = self.above.len();
+        let mut next = self.fields_above(number);
+        let mut left = self.classes.len();
         while left > 0 {
             let Some(class) = next else {
                 return None;
@@ -270,7 +323,7 @@ impl<'p, 'a> Family<'p, 'a> {
             if let Some(field) = self.own_field(class, name) {
                 return Some(field);
             }
-            next = self.above(class);
+            next = self.fields_above(class);
             left -= 1;
         }
         None

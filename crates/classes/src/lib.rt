@@ -6,6 +6,7 @@ mod above;
 mod alike;
 mod build;
 mod check;
+mod climbs;
 mod constructors;
 mod entries;
 mod family;
@@ -21,6 +22,7 @@ mod numbered_fields;
 mod numbers;
 mod overriding;
 mod own;
+mod starts;
 
 pub use check::first_fault;
 pub use entries::{ClassEntry, ClassTable, FieldEntry, MethodEntry, ParamEntry};

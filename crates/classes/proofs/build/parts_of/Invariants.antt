@@ -7,6 +7,6 @@ use Rattle.classes.proofs.build.parts_of.Given as goal
 
 abbrev pub invariant-loop-own : goal.invariant-loop-own
 invariant-loop-own l =
-    (with_classes (map class_of l.classes) l.aboves.items l.names (parts_data l.parts) (map class_of (drop l.number l.classes)) ≡ parts_from l.names (map class_of l.classes))
+    (with_classes (map class_of l.classes) l.lineup.aboves.items l.names (parts_data l.parts) (map class_of (drop l.number l.classes)) ≡ parts_from l.names (map class_of l.classes))
     × (into_iter_items l.own-iterator ≡ all_own_names (map class_of (drop l.number l.classes)))
     × (into_iter_len l.own-iterator ≡ length (into_iter_items l.own-iterator))

@@ -2,7 +2,7 @@ use Rattle.classes.specs.Members.{is_entry}
 use Rattle.syntax.specs.Views.{member_of}
 use Rattle.std.proofs.Common.{drop, map, ◌≡◌}
 use Rattle.std.specs.List.{list_any}
-use Rattle.classes.proofs.check.has_entry.Given as goal
+use Rattle.classes.proofs.starts.has_entry.Given as goal
 
 abbrev pub invariant-loop-member : goal.invariant-loop-member
 invariant-loop-member l =

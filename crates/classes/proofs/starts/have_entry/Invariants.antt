@@ -3,7 +3,7 @@ use Rattle.classes.specs.Members.{is_entry}
 use Rattle.syntax.specs.Views.{class_of}
 use Rattle.std.proofs.Common.{drop, map, ◌≡◌}
 use Rattle.std.specs.List.{list_any}
-use Rattle.classes.proofs.check.have_entry.Given as goal
+use Rattle.classes.proofs.starts.have_entry.Given as goal
 
 abbrev pub invariant-loop-number : goal.invariant-loop-number
 invariant-loop-number l =
