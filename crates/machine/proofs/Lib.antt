@@ -21,3 +21,5 @@ mod Insides
 pub mod Schedules
 mod Reaching
 mod Starting
+-- What is kept of calls.
+mod Keeping

@@ -10,7 +10,7 @@ use Rattle.machine.specs.declared.seen.Seen.{Seen}
 
 -- the core program behind the one that the machine lends
 abbrev pub program_in : Seen → Program
-program_in s = program_of s.program.now
+program_in s = program_of s.targets.now
 
 -- the lines of the program's code, all methods in one list
 abbrev pub code_lines_in : Seen → List Code

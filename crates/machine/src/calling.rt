@@ -63,7 +63,7 @@ fn enters_some(
 ) -> Deed
     ensures { result ≡ enters_some (entry_in seen.now) (room_in seen.now) depth arguments next method (slice_get (program_in seen.now).methods method) address }
 {
-    match seen.program.methods.get(method.0 as usize) {
+    match seen.program().methods.get(method.0 as usize) {
         Some(_) => enters(seen, arguments, next, method, address, may_deepen(depth)),
         None => Deed::Fails(Fault::Null),
     }
@@ -107,7 +107,7 @@ fn calls_on(
 }
 
 /// The class of the object at an address, where it is there.
-fn class_at(seen: &Seen<'_>, address: Address) -> Option<ClassId>
+pub(crate) fn class_at(seen: &Seen<'_>, address: Address) -> Option<ClassId>
     ensures { result ≡ object_class ((shared_in seen.now).object_at address) }
 {
     match seen.heap.find(address) {
@@ -121,7 +121,7 @@ fn target_at(seen: &Seen<'_>, method: MethodId, class: Option<ClassId>) -> Optio
     ensures { result ≡ target_at (program_in seen.now) method class }
 {
     match class {
-        Some(class) => seen.program.target(class, method),
+        Some(class) => seen.targets.target(class, method),
         None => None,
     }
 }
@@ -136,7 +136,7 @@ pub(crate) fn calls(
 ) -> Deed
     ensures { result ≡ call_deed (program_in seen.now) (shared_in seen.now) (entry_in seen.now) (room_in seen.now) depth next (reverse operands.now) method (slice_get (program_in seen.now).methods method) }
 {
-    match seen.program.methods.get(method.0 as usize) {
+    match seen.program().methods.get(method.0 as usize) {
         Some(found) => {
             let arguments = found.params.len();
             let receiver = address_of(operand(operands, arguments));
@@ -151,7 +151,7 @@ fn run_of(seen: &Seen<'_>, class: Option<ClassId>) -> Option<MethodId>
     ensures { result ≡ run_of (program_in seen.now) class }
 {
     match class {
-        Some(class) => run_of_class(seen.program, class),
+        Some(class) => run_of_class(seen.program(), class),
         None => None,
     }
 }

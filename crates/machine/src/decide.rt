@@ -155,7 +155,7 @@ pub(crate) fn value_at(seen: &Seen<'_>, address: Address, field: FieldId) -> Opt
     ensures { result ≡ value_at (program_in seen.now) (shared_in seen.now) seen.now.thread address field }
 {
     match seen.heap.find(address) {
-        Some((class, values)) => listed_value(seen.program, class, values, field),
+        Some((class, values)) => listed_value(seen.program(), class, values, field),
         None => None,
     }
 }
@@ -183,7 +183,7 @@ fn written_index(seen: &Seen<'_>, address: Address, field: FieldId) -> Option<u1
     ensures { result ≡ option_map (λ _. index_of (slice_get (program_in seen.now).fields field))
         (unless_final (slice_get (program_in seen.now).fields field) (value_at (program_in seen.now) (shared_in seen.now) seen.now.thread address field)) }
 {
-    let place = seen.program.fields.get(field.0 as usize)?;
+    let place = seen.program().fields.get(field.0 as usize)?;
     if place.is_final {
         return None;
     }
@@ -326,7 +326,7 @@ pub(crate) fn deed_of(seen: &Seen<'_>, top: &TopFrame<'_>, next: u32, instr: Ins
             field,
             address_of(operand(operands, 1)),
         ),
-        Instr::New(class) => makes(seen.program, next, class),
+        Instr::New(class) => makes(seen.program(), next, class),
         Instr::Call(method) => calls(seen, top.frames, next, operands, method),
         Instr::Acquire => acquires(seen, next, address_of(operand(operands, 0))),
         Instr::Release => releases(seen, next, top.taken.last().copied()),

@@ -93,7 +93,7 @@ fn mutable_kind(
 fn access_kind(seen: &Seen<'_>, writes: bool, address: Address, field: FieldId) -> StepKind
     ensures { result ≡ access_kind (program_in seen.now) (shared_in seen.now) seen.now.thread writes address (slice_get (program_in seen.now).fields field) }
 {
-    match seen.program.fields.get(field.0 as usize) {
+    match seen.program().fields.get(field.0 as usize) {
         None => StepKind::Both,
         Some(found) => field_kind(seen, writes, address, found),
     }

@@ -4,6 +4,7 @@
 #![tactic(auto)]
 
 mod act;
+mod called;
 mod calling;
 mod decide;
 mod deed;
@@ -18,6 +19,7 @@ mod operators;
 mod perform;
 mod seen;
 mod shared;
+mod targets;
 mod turn;
 
 pub use act::object_values;
@@ -33,3 +35,4 @@ pub use make::slots_of;
 pub use next::next_turn;
 pub use operators::{address_of, as_int, as_truth, binary_value, operand, unary_value};
 pub use seen::Seen;
+pub use targets::Targets;

@@ -16,6 +16,7 @@ ghost use Rattle.machine.specs.MachineValue.{code_state};
 ghost use Rattle.machine.specs.Taken.{thread_turn};
 
 use crate::act::object_values;
+use crate::called::next_call;
 use crate::deed::{StepEnd, Turn};
 use crate::equal::{copy_numbers, copy_threads, same_heap, same_locks, same_threads};
 use crate::inside::{first_inside, stands_inside};
@@ -23,9 +24,11 @@ use crate::kinds::{cell_kind, turn_kind};
 use crate::next::next_turn;
 use crate::seen::Seen;
 use crate::shared::SharedState;
+use crate::targets::Targets;
 use crate::turn::take_turn;
 use compile::CodeTable;
 use core_program::CoreProgram;
+use paths::{ClassId, MethodId};
 use state::{Address, Heap, Locks, StepKind, ThreadCell};
 use std::alloc::{AllocError as NoMemory, Global};
 use std::marker::Model;
@@ -46,10 +49,11 @@ pub struct Machine<'p> {
     shared: SharedState,
     threads: Vec<ThreadCell>,
     made: u32,
+    targets: Targets<'p>,
 }
 
 impl<'p> Model for Machine<'p> {
-    ghost use Rattle.std.specs.Prelude.{◌<◌, ◌≤◌, ◌+◌, ◌^◌, length};
+    ghost use Rattle.std.specs.Prelude.{◌≡◌, ◌<◌, ◌≤◌, ◌+◌, ◌^◌, length};
     ghost use Rattle.core_program.specs.Views.{program_of};
     ghost use Rattle.core_program.specs.contracts.tree.CoreStmt as statement;
     ghost use Rattle.std.specs.Coded.{codes};
@@ -73,7 +77,7 @@ impl<'p> Model for Machine<'p> {
         × (length m.threads.items ≤ m.made + 1) × (m.made < 2 ^ 32)
         × IsKept (program_of m.program.now) m.code.now.code.items m.code.now.entry.items m.code.now.room.items
         (record { heap = m.shared.heap; locks = m.shared.locks; threads = m.threads.items; output = m.shared.output.items })
-        × IsCounted m.made m.shared.heap m.shared.locks };
+        × IsCounted m.made m.shared.heap m.shared.locks × (m.targets ≡ m.program.now) };
 }
 
 impl<'p> Machine<'p> {
@@ -108,6 +112,7 @@ impl<'p> Machine<'p> {
             },
             threads,
             made: 0,
+            targets: Targets::new(alloc, program),
         })
     }
 
@@ -129,6 +134,7 @@ impl<'p> Machine<'p> {
             },
             threads,
             made: self.made,
+            targets: self.targets.afresh(alloc),
         })
     }
 
@@ -197,7 +203,7 @@ impl<'p> Machine<'p> {
         ensures { (q : State) → StandsFor self.now q → result ≡ kind_of (program_run self.now) q thread }
     {
         let seen = Seen {
-            program: self.program,
+            targets: &self.targets,
             code: self.code,
             heap: &self.shared.heap,
             locks: &self.shared.locks,
@@ -221,6 +227,7 @@ impl<'p> Machine<'p> {
         ensures program { self.new.program ≡ self.old.program }
         ensures code { self.new.code ≡ self.old.code }
     {
+        self.note(thread);
         let turn = self.turn(thread);
         self.take(alloc, thread, turn)
     }
@@ -235,6 +242,7 @@ impl<'p> Machine<'p> {
         ensures program { self.new.program ≡ self.old.program }
         ensures code { self.new.code ≡ self.old.code }
     {
+        self.note(thread);
         let turn = self.turn(thread);
         let kind = self.turn_kind(thread, &turn);
         match self.take(alloc, thread, turn) {
@@ -245,14 +253,14 @@ impl<'p> Machine<'p> {
 
     /// What a thread may see.
     fn seen(&self, thread: u32) -> Seen<'_>
-        ensures program { result.program.now ≡ self.now.program }
+        ensures program { result.targets.now ≡ self.now.program }
         ensures code { result.code.now ≡ self.now.code }
         ensures heap { result.heap.now ≡ self.now.state.heap }
         ensures locks { result.locks.now ≡ self.now.state.locks }
         ensures thread { result.thread ≡ thread }
     {
         Seen {
-            program: self.program,
+            targets: &self.targets,
             code: self.code,
             heap: &self.shared.heap,
             locks: &self.shared.locks,
@@ -275,6 +283,27 @@ impl<'p> Machine<'p> {
         // Only the proof needs this: the invariant of a struct is known where one of its fields is used.
         let _ = &self.code;
         turn_kind(&self.seen(thread), *turn)
+    }
+
+    /// The class of the object on which a thread calls a method next, and this method.
+    fn next_call(&self, thread: u32) -> Option<(ClassId, MethodId)> {
+        match self.threads.get(thread as usize) {
+            Some(cell) => next_call(&self.seen(thread), cell),
+            None => None,
+        }
+    }
+
+    /// Keeps which method runs for the call that a thread makes next, where looks may be dear.
+    fn note(&mut self, thread: u32)
+        ensures { self.new ≡ self.old }
+    {
+        if !self.targets.is_deep() {
+            return;
+        }
+        let Some((class, method)) = self.next_call(thread) else {
+            return;
+        };
+        self.targets.keep(class, method);
     }
 
     /// A turn of a thread, which comes to this.

@@ -13,7 +13,7 @@ use state::{Address, Fault, ThreadCell, ThreadState};
 fn first_turn(seen: &Seen<'_>, address: Address, method: MethodId) -> Turn
     ensures { result ≡ first_turn address method (slice_get (program_in seen.now).methods method) (slice_get (entry_in seen.now) method) (slice_get (room_in seen.now) method) }
 {
-    let Some(_) = seen.program.methods.get(method.0 as usize) else {
+    let Some(_) = seen.program().methods.get(method.0 as usize) else {
         return Turn::Fails(Fault::Null);
     };
     let Some(entry) = seen.code.entry.get(method.0 as usize) else {

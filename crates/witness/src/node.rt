@@ -1,5 +1,5 @@
 //! Nodes of the search: a machine, who has to go on there, and the entries that are left.
-ghost use Rattle.std.specs.Prelude.{◌≡◌, ◌≢◌, ◌+◌, ◌<◌, ◌∷◌, [], Option, Some, None, true, IfOk, OnOk, IfSome};
+ghost use Rattle.std.specs.Prelude.{◌≡◌, ◌≢◌, ◌+◌, ◌<◌, ◌∷◌, [], ℕ, Option, Some, None, true, IfOk, OnOk, IfSome};
 ghost use Rattle.core_program.specs.Views.{program_of};
 ghost use Rattle.state.specs.States.{State};
 ghost use Rattle.compile.specs.IsCode.{IsCodeOf};
@@ -7,7 +7,8 @@ ghost use Rattle.semantics.specs.Run.{inside};
 ghost use Rattle.semantics.specs.Step.{step};
 ghost use Rattle.machine.specs.declared.deed.StepEnd.TheVariants as ends;
 ghost use Rattle.machine.specs.Standing.{program_run, StandsFor};
-ghost use Rattle.witness.specs.Walks.{may_step, must_step_next, allows};
+ghost use Rattle.witness.specs.Tables.{count_at};
+ghost use Rattle.witness.specs.Walks.{may_step, must_step_next, less, allows};
 ghost use Rattle.witness.specs.Nodes.{HasStepped, IsStart, IsTwin, IsBehind, IsChild, IsAdvanced};
 
 use crate::table::{allows, use_entry, use_one};
@@ -120,6 +121,15 @@ fn stepped<'p>(
     }
 }
 
+/// What is left of these entries behind one of a thread.
+fn left_behind(alloc: Global, left: &[u32], thread: u32) -> Result<Vec<u32>, NoMemory>
+    ensures { IfOk result (λ v. (t : ℕ) → count_at v.items t ≡ less (count_at left.now) thread t) }
+{
+    let mut left = copied(alloc, left)?;
+    use_one(&mut left, thread);
+    Ok(left)
+}
+
 /// The node behind this one, which stands at this place, with the machine after a step of this thread.
 fn behind<'p>(
     alloc: Global,
@@ -133,8 +143,7 @@ fn behind<'p>(
     ensures steps { IfOk result (λ next. next.steps.items ≡ thread ∷ []) }
 {
     let busy = goes_on(&machine, thread);
-    let mut left = copied(alloc, node.left.as_slice())?;
-    use_one(&mut left, thread);
+    let left = left_behind(alloc, node.left.as_slice(), thread)?;
     let mut steps = Vec::new(alloc);
     steps.push(thread)?;
     Ok(Node {

@@ -15,7 +15,8 @@ returns-in-Some c =
     let s = c.args.seen.now in
     let operands = reverse c.args.operands.now in
     let raw = slice_get-map method_of lent c.method.inside.0 ∙ ap (option_map method_of) (slice_get_read lent (length lent) c.method.inside.0 found refl c.in-Some.ensures.lookup.3.0 c.in-Some.ensures.lookup.1) in
-    let there = sym (λ j. slice_get (map method_of (c.deref.ensures.value j)) (c.method.view_is j)) ∙ raw in
+    let run = ap (λ p. slice_get (map method_of p.methods.items) c.args.method) (sym c.program.ensures) in
+    let there = run ∙ sym (λ j. slice_get (map method_of (c.deref.ensures.value j)) (c.method.view_is j)) ∙ raw in
     let many : length found.params.items ≡ c.len-arguments.result = omega (arith, c.len-arguments.ensures) in
     subst (λ o. c.calls_on.result ≡ call_deed (program_in s) (shared_in s) (entry_in s) (room_in s) c.args.depth c.args.next operands c.args.method o) (sym there)
     (c.calls_on.ensures
@@ -28,5 +29,6 @@ returns-in-None c =
     let s = c.args.seen.now in
     let lent = c.deref.result.now in
     let raw = slice_get-map method_of lent c.method.inside.0 ∙ ap (option_map method_of) (slice_get_past lent c.method.inside.0 c.in-None.ensures.lookup.3) in
-    let gone = sym (λ j. slice_get (map method_of (c.deref.ensures.value j)) (c.method.view_is j)) ∙ raw in
+    let run = ap (λ p. slice_get (map method_of p.methods.items) c.args.method) (sym c.program.ensures) in
+    let gone = run ∙ sym (λ j. slice_get (map method_of (c.deref.ensures.value j)) (c.method.view_is j)) ∙ raw in
     ap (call_deed (program_in s) (shared_in s) (entry_in s) (room_in s) c.args.depth c.args.next (reverse c.args.operands.now) c.args.method) (sym gone)

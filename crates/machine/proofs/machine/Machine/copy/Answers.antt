@@ -16,6 +16,7 @@ invariant_of-result c =
       kept_still (program_of i.program.now) code.code.items code.entry.items code.room.items i.shared.heap c.in_ok-heap.heap i.shared.locks c.in_ok-locks.locks i.threads.items c.in_ok-threads.threads.items
           i.shared.output.items c.in_ok-output.output.items c.in_ok-heap.ensures c.in_ok-locks.ensures threads outputs v.3,
       counted_still i.made i.shared.heap c.in_ok-heap.heap i.shared.locks c.in_ok-locks.locks c.in_ok-heap.ensures c.in_ok-locks.ensures v.4,
+      c.afresh.ensures ∙ v.5,
     )
 
 pub returns : goal.returns

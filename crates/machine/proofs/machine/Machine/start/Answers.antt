@@ -22,6 +22,7 @@ invariant_of-result c =
           (c.in_ok-push.ensures.items ∙ (λ j. c.new-threads.ensures.items j ++ (c.ready.ensures j ∷ []))) c.new-2.ensures.items c.args.code.now.entry.items c.args.code.now.room.items,
       start_counted (program_of c.args.program.now) c.add.new.self c.new.result
           (c.in_ok-add.ensures.ok ∙ (λ j. finite.insert (c.new-heap.ensures j) main_address (record { class = class; values = c.in_ok-values.ensures j }))) c.new.ensures,
+      c.new-3.ensures,
     )
 
 pub returns-clause-stands : goal.returns-clause-stands

@@ -30,6 +30,7 @@ invariant_of-self c =
           (record { heap = c.take_turn.new.shared.heap; locks = c.take_turn.new.shared.locks; threads = c.take_turn.new.threads.items; output = c.take_turn.new.shared.output.items })
           c.self.invariant.3 (c.take_turn.ensures.taken c.self.inside.code.now.code.items c.self.inside.code.now.entry.items c.self.inside.code.now.room.items (c.requires.decided ∙ ap (λ m. thread_turn m c.args.thread) (sym c.self.view_is))) (c.take_turn.ensures.roomy c.self.inside.code.now.code.items c.self.inside.code.now.entry.items c.self.inside.code.now.room.items (c.requires.decided ∙ ap (λ m. thread_turn m c.args.thread) (sym c.self.view_is)) c.self.invariant.0.rooms c.self.invariant.3.roomy),
       c.in-Ok.ensures.counted s.made c.self.invariant.4,
+      c.self.invariant.5,
     )
 
 pub returns-in-Ok-clause-turn : goal.returns-in-Ok-clause-turn
@@ -56,6 +57,7 @@ invariant_of-self-in-Err c =
           (record { heap = c.take_turn.new.shared.heap; locks = c.take_turn.new.shared.locks; threads = c.take_turn.new.threads.items; output = c.take_turn.new.shared.output.items })
           c.self.invariant.3 (c.take_turn.ensures.taken c.self.inside.code.now.code.items c.self.inside.code.now.entry.items c.self.inside.code.now.room.items (c.requires.decided ∙ ap (λ m. thread_turn m c.args.thread) (sym c.self.view_is))) (c.take_turn.ensures.roomy c.self.inside.code.now.code.items c.self.inside.code.now.entry.items c.self.inside.code.now.room.items (c.requires.decided ∙ ap (λ m. thread_turn m c.args.thread) (sym c.self.view_is)) c.self.invariant.0.rooms c.self.invariant.3.roomy),
       subst (λ x. IsCounted s.made x.heap x.locks) (sym (c.in-Err.ensures.taken c.self.inside.code.now.code.items c.self.inside.code.now.entry.items c.self.inside.code.now.room.items (c.requires.decided ∙ ap (λ m. thread_turn m c.args.thread) (sym c.self.view_is))).0) c.self.invariant.4,
+      c.self.invariant.5,
     )
 
 pub returns-in-Err-clause-lean : goal.returns-in-Err-clause-lean
