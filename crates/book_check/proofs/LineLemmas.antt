@@ -21,6 +21,7 @@ use Rattle.conditions.proofs.PathLemmas.{put}
 use Rattle.conditions.proofs.NodeLemmas.{parts-test, parts-high, parts-low}
 use Rattle.rules.specs.Rules.{IsSubset, AtMost, held_in}
 use Rattle.rules.proofs.BasicLemmas.{below_itself, below_chain, below_error}
+use Rattle.rules.proofs.SetLemmas.{held_whole}
 use Rattle.book_check.specs.Good.{IsAntitoneValue, IsUnder, IsUnderIn, IsTabled}
 use Rattle.book_check.specs.Conclusions.{tests_only}
 
@@ -113,15 +114,6 @@ under_is required x y z w u body own same = (
   (λ under H. subst (λ v. AtMost v (y H)) (sym (body H)) (subst (λ v. AtMost (w H) v) (sym (own H))
       (under_if (list_all H required) (w H) (z H) (λ e. subst (λ v. AtMost (w H) v) (sym (same H)) (under H (held_all H required e)))))),
 )
-
--- the set itself, where it has no others
-held_whole : (rel : List PathData) (H : Held) → IsSubset H (has_path rel) → held_in rel H ≡ H
-held_whole rel H part = λ i q. whole (has_path rel q) (H q) (part q) i
-  where
-    whole : (r h : Bool) → (h ≡ true → r ≡ true) → (r && h) ≡ h
-    whole true h there = refl
-    whole false true there = absurd (let none : false ≡ true = there refl in cc)
-    whole false false there = refl
 
 -- at or below a value at each part of some paths, where it is an error if a required path isn't held
 pub under_in_is : (rel required : List PathData) (x y z w u : Held → Basic) → ((H : Held) → x H ≡ w (held_in rel H)) → ((H : Held) → y H ≡ (if list_all (held_in rel H) required then z (held_in rel H) else Error)) → ((H : Held) → z H ≡ u H) →

@@ -20,7 +20,6 @@ use Rattle.refutation.specs.declared.groups.Group.{Group}
 use Rattle.refutation.proofs.Sets.{const_joined}
 use Rattle.refutation.proofs.Over.{over_least, over_above}
 use Rattle.refutation.proofs.FloorLaws.{over_falls}
-use Rattle.refutation.proofs.Reached.{whole_in}
 use Rattle.refutation.proofs.RowLemmas.{row_same}
 use Rattle.refutation.proofs.TableLemmas.{entry_consts}
 
@@ -28,13 +27,13 @@ use Rattle.refutation.proofs.TableLemmas.{entry_consts}
 
 -- the table tells what is said of the methods that override
 pub tells_all : (P : Program) (rel : ℕ → List PathData) (tables : List (List Basic)) (rows : List (List ℕ)) (m : ℕ) (ms : List ℕ) (its : List PathData) (start table : List Basic) (gs : List Group) → AreOverriders P rows → ms ≡ row_at rows m → its ≡ rel m → start ≡ consts its
-    → ((H : Held) → said_in_groups rel gs H ≡ joined_over rel (said_by rel tables) ms H) → ((H : Held) → table_entry its table H ≡ join_of (table_entry its start H) (said_in_groups rel gs (held_in its H)))
+    → ((H : Held) → IsSubset H (has_path its) → said_in_groups its gs H ≡ joined_over rel (said_by rel tables) ms H) → ((H : Held) → table_entry its table H ≡ join_of (table_entry its start H) (said_in_groups its gs H))
     → (H : Held) → IsSubset H (has_path (rel m)) → table_entry (rel m) table H ≡ joined_over rel (said_by rel tables) (overriding P m) H
 tells_all P rel tables rows m ms its start table gs are row is begun grouped joined H part =
     ap (λ ps. table_entry ps table H) (sym is) ∙ joined H
-    ∙ ap (λ b. join_of b (said_in_groups rel gs (held_in its H))) (ap (λ t. table_entry its t H) begun ∙ entry_consts its H)
-    ∙ const_joined (said_in_groups rel gs (held_in its H))
-    ∙ ap (said_in_groups rel gs) (ap (λ ps. held_in ps H) is ∙ whole_in (rel m) H part) ∙ grouped H
+    ∙ ap (λ b. join_of b (said_in_groups its gs H)) (ap (λ t. table_entry its t H) begun ∙ entry_consts its H)
+    ∙ const_joined (said_in_groups its gs H)
+    ∙ grouped H (subst (λ ps. IsSubset H (has_path ps)) (sym is) part)
     ∙ ap (λ ns. joined_over rel (said_by rel tables) ns H) row ∙ row_same rel (said_by rel tables) H P rows m are
 
 -- and so it is of the lines

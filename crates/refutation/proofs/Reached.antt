@@ -1,5 +1,5 @@
 -- What is said of the methods of a list, joined with a basic, up to so much.
-use Rattle.std.proofs.Common.{◌≡◌, ℕ, zero, suc, ◌+◌, ◌<◌, ◌≤◌, ◌&&◌, Bool, true, false, List, [], ◌∷◌, drop, get_or, length, slice_get, refl, sym, ap, subst, ◌∙◌, arith}
+use Rattle.std.proofs.Common.{◌≡◌, ℕ, zero, suc, ◌+◌, ◌<◌, ◌≤◌, ◌&&◌, Bool, true, List, [], ◌∷◌, drop, get_or, length, slice_get, refl, sym, ap, subst, ◌∙◌, arith}
 use Rattle.std.specs.Prelude.{Option, Some, None, IfSome, MatchOption}
 use Rattle.std.specs.List.{AllByRecursion}
 use Rattle.std.proofs.lemmas.Bool.{or_left, or_right}
@@ -13,7 +13,7 @@ use Rattle.algebra.specs.Tables.{half_table}
 use Rattle.core_program.specs.Core.{Program}
 use Rattle.rules.specs.Overriding.{AreOverriders}
 use Rattle.rules.specs.Effect.{Assignment}
-use Rattle.rules.specs.Rules.{IsSubset, AtMost, held_in}
+use Rattle.rules.specs.Rules.{AtMost, held_in}
 use Rattle.rules.specs.Search.{row_at}
 use Rattle.rules.proofs.BasicLemmas.{below_chain, both_below}
 use Rattle.refutation.specs.Lines.{joined_over, body_effect, certified_effect}
@@ -37,17 +37,8 @@ entry_in rel (p ∷ ps) table H all =
     let same : held_in rel H p ≡ H p = ap (λ b. b && H p) all.0 in
     ap (λ b. table_entry ps (half_table b table) (held_in rel H)) same ∙ entry_in rel ps (half_table (H p) table) H all.1
 
-said_in : (rel : ℕ → List PathData) (tables : List (List Basic)) (m : ℕ) (H : Held) → said_by rel tables m (held_in (rel m) H) ≡ said_by rel tables m H
+pub said_in : (rel : ℕ → List PathData) (tables : List (List Basic)) (m : ℕ) (H : Held) → said_by rel tables m (held_in (rel m) H) ≡ said_by rel tables m H
 said_in rel tables m H = entry_in (rel m) (rel m) (row_at tables m) H (all_had (rel m))
-
--- a set of relevant paths has no others
-pub whole_in : (rel : List PathData) (H : Held) → IsSubset H (has_path rel) → held_in rel H ≡ H
-whole_in rel H part = λ i q. whole (has_path rel q) (H q) (part q) i
-  where
-    whole : (r h : Bool) → (h ≡ true → r ≡ true) → (r && h) ≡ h
-    whole true h there = refl
-    whole false false there = refl
-    whole false true there = there refl
 
 -- The methods of a list, one after the other.
 

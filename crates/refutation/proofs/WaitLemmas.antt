@@ -1,10 +1,10 @@
--- Methods that needn't be asked again: what is to be said of a method changes only where one that it calls, or that overrides it, is
--- raised; and to ask where nothing new is to be said adds no line.
+-- Methods that needn't be asked again: to ask where nothing new is to be said adds no line, and what is said of the methods that override
+-- one stays where lines of that one are added.
 use Rattle.std.proofs.Common.{◌≡◌, ℕ, zero, suc, ◌+◌, ◌-◌, ◌<◌, ◌≤◌, Bool, true, false, ◌||◌, ◌&&◌, ◌==◌, List, [], ◌∷◌, ◌++◌, length, take, drop, get_or, slice_get, Some, None, refl, sym, ap, subst, ◌∙◌, arith, append_assoc, append-nil}
 use Rattle.std.specs.Prelude.{Option, filter, map, if◌then◌else◌}
 use Rattle.std.specs.List.{list_all, AllByRecursion}
 use Rattle.std.proofs.Common.{length-append}
-use Rattle.std.proofs.lemmas.Bool.{eqb-true, eqb-false, ne_eqb, false_from_ne_true, both_ways}
+use Rattle.std.proofs.lemmas.Bool.{eqb-true, eqb-false, ne_eqb}
 use Rattle.std.proofs.lemmas.Grind.{common_steps}
 use Rattle.std.proofs.lemmas.List.{take_more, length-drop}
 use Rattle.paths.specs.Paths.{PathData}
@@ -14,15 +14,12 @@ use Rattle.algebra.specs.Basics.{below_of, join_of}
 use Rattle.algebra.specs.HeldPaths.{Held, has_path}
 use Rattle.core_program.specs.Core.{Program, Method}
 use Rattle.core_program.specs.Dispatch.{Overrides}
-use Rattle.rules.specs.Search.{row_at as overs_at}
-use Rattle.rules.specs.Overriding.{AreOverriders}
 use Rattle.rules.specs.Effect.{Assignment}
 use Rattle.rules.specs.Rules.{AtMost, held_in}
 use Rattle.rules.proofs.BasicLemmas.{below_chain, both_below}
-use Rattle.rules.specs.Called.{stmt_calls, has_method, method_calls, counts_as_caller, callers_of_method, AreCallers}
+use Rattle.rules.specs.Called.{stmt_calls, has_method, method_calls}
 use Rattle.rules.proofs.CallsSame.{first_false, second_false, stmt_same}
-use Rattle.rules.proofs.CalleeLemmas.{contained}
-use Rattle.refutation.specs.Lines.{LineData, covers, floor, overriding, joined_over, body_effect, certified_effect}
+use Rattle.refutation.specs.Lines.{LineData, covers, floor, overriding, joined_over, body_effect}
 use Rattle.refutation.specs.Certificates.{keeps_bound}
 use Rattle.refutation.specs.Passes.{MethodAtSet, cells_in, cells_from, subsets_of, LinesWritten, by_tests, floor_at, up_at, line_for, pass}
 use Rattle.refutation.specs.Ends.{IsPass}
@@ -30,7 +27,6 @@ use Rattle.refutation.specs.Overs.{IsSaidOver}
 use Rattle.refutation.specs.Waiting.{Adds, IsMostOver, AreSaid, cells_with, AreSettled, AreWoken, IsAsleep}
 use Rattle.refutation.proofs.Sets.{join_const}
 use Rattle.refutation.proofs.Over.{over_least, over_above}
-use Rattle.refutation.proofs.FloorLaws.{floor_more}
 use Rattle.refutation.proofs.TableLemmas.{lines_is}
 
 -- Lines that are added.
@@ -106,7 +102,7 @@ module _ (P : Program) (rel : ℕ → List PathData) where
 
   -- What one line more changes.
 
-  floor_other : (ls : List LineData) (l : LineData) (m : ℕ) → (m == l.method) ≡ false → (H : Held) → floor rel ls m H ≡ floor rel (ls ++ l ∷ []) m H
+  pub floor_other : (ls : List LineData) (l : LineData) (m : ℕ) → (m == l.method) ≡ false → (H : Held) → floor rel ls m H ≡ floor rel (ls ++ l ∷ []) m H
   floor_other ls l m other H = sym (lines_is rel ls l m H ∙ ap (λ b. join_of (floor rel ls m H) (if b && covers l.held (rel m) H then l.found else Const)) turned ∙ join_const (floor rel ls m H))
     where
       turned : (l.method == m) ≡ false
@@ -147,66 +143,18 @@ module _ (P : Program) (rel : ℕ → List PathData) where
     low = most_stays m most old new adds is.low;
   }
 
-  module _ (rows : List (List ℕ)) (overriders : AreOverriders P rows) where
-    over_part : (A B : Assignment) (n m : ℕ) (H : Held) → ((k : ℕ) → (k == m) ≡ false → (K : Held) → A k K ≡ B k K) → (Overrides P m n → ⊥) → AtMost (joined_over rel A (overriding P n) H) (joined_over rel B (overriding P n) H)
-    over_part A B n m H same none = over_least P rel A n H _ (λ k over.
-        subst (λ b. AtMost b (joined_over rel B (overriding P n) H)) (sym (same k (ne_eqb k m (λ e. none (subst (λ x. Overrides P x n) e over))) (held_in (rel k) H))) (over_above P rel B n H k over))
+  -- what a body comes to by assignments that differ at one method alone, which it doesn't call
+  pub body_same : (A B : Assignment) (n m : ℕ) (o : Option Method) (H : Held) → ((k : ℕ) → (k == m) ≡ false → (K : Held) → A k K ≡ B k K) → (overs : List ℕ) → method_calls o overs m ≡ false → body_effect P rel A o H ≡ body_effect P rel B o H
+  body_same A B n m None H same overs quiet = refl
+  body_same A B n m (Some method) H same overs quiet = stmt_same P rel A B (λ k. k == m) same method.body H (first_false (stmt_calls (λ k. k == m) method.body) (has_method overs m) quiet)
 
-    body_same : (A B : Assignment) (n m : ℕ) (o : Option Method) (H : Held) → ((k : ℕ) → (k == m) ≡ false → (K : Held) → A k K ≡ B k K) → (overs : List ℕ) → method_calls o overs m ≡ false → body_effect P rel A o H ≡ body_effect P rel B o H
-    body_same A B n m None H same overs quiet = refl
-    body_same A B n m (Some method) H same overs quiet = stmt_same P rel A B (λ k. k == m) same method.body H (first_false (stmt_calls (λ k. k == m) method.body) (has_method overs m) quiet)
-
-    -- what a call of a method that is there comes to by assignments that differ at one method alone, which it doesn't look at
-    run_same : (A B : Assignment) (n m : ℕ) (method : Method) (H : Held) → slice_get P.methods n ≡ Some method → ((k : ℕ) → (k == m) ≡ false → (K : Held) → A k K ≡ B k K) → counts_as_caller P (overs_at rows) n m ≡ false
-        → certified_effect P rel A n H ≡ certified_effect P rel B n H
-    run_same A B n m method H is same quiet =
-        let none : Overrides P m n → ⊥ = λ over. both_ways (has_method (overs_at rows n) m)
-        (second_false (stmt_calls (λ k. k == m) method.body) (has_method (overs_at rows n) m) (ap (λ o. method_calls o (overs_at rows n) m) (sym is) ∙ quiet))
-        (contained (overs_at rows n) m ((overriders n m).1 over)) in
-        let body = body_same A B n m (slice_get P.methods n) H same (overs_at rows n) quiet in
-        let over = both_below _ _ (over_part A B n m H same none) (over_part B A n m H (λ k e K. sym (same k e K)) none) in
-        λ i. join_of (body i) (over i)
-
-    -- where nothing new was to be said of a method, nothing is after a line of one that it doesn't look at
-    said_stays : (n : ℕ) (method : Method) (ls : List LineData) (l : LineData) → slice_get P.methods n ≡ Some method → counts_as_caller P (overs_at rows) n l.method ≡ false
-        → (cells : List MethodAtSet) → AllByRecursion (λ c. c.method ≡ n) cells → AreSaid P rel cells ls → AreSaid P rel cells (ls ++ l ∷ [])
-    said_stays n method ls l is quiet [] its said = tt
-    said_stays n method ls l is quiet (c ∷ cells) its said = (here, said_stays n method ls l is quiet cells its.1 said.1)
-      where
-        same : up_at P rel ls c ≡ up_at P rel (ls ++ l ∷ []) c
-        same = subst (λ k. certified_effect P rel (floor rel ls) k (has_path c.held) ≡ certified_effect P rel (floor rel (ls ++ l ∷ [])) k (has_path c.held)) (sym its.0)
-            (run_same (floor rel ls) (floor rel (ls ++ l ∷ [])) n l.method method (has_path c.held) is (λ k e K. floor_other ls l k e K) quiet)
-
-        here : AtMost (up_at P rel (ls ++ l ∷ []) c) (floor_at P rel (ls ++ l ∷ []) c)
-        here = subst (λ b. AtMost b (floor_at P rel (ls ++ l ∷ []) c)) same (below_chain _ _ _ said.0 (floor_more rel ls l c.method (has_path c.held)))
-
-    all_stay : (n m : ℕ) (method : Method) → slice_get P.methods n ≡ Some method → counts_as_caller P (overs_at rows) n m ≡ false → (cells : List MethodAtSet) → AllByRecursion (λ c. c.method ≡ n) cells
-        → (more ls : List LineData) → AllByRecursion (λ l. l.method ≡ m) more → AreSaid P rel cells ls → AreSaid P rel cells (ls ++ more)
-    all_stay n m method is quiet cells its [] ls all said = subst (AreSaid P rel cells) (sym (append-nil ls)) said
-    all_stay n m method is quiet cells its (l ∷ more) ls all said =
-        subst (AreSaid P rel cells) (append_assoc ls (l ∷ []) more)
-        (all_stay n m method is quiet cells its more (ls ++ l ∷ []) all.1
-        (said_stays n method ls l is (ap (counts_as_caller P (overs_at rows) n) all.0 ∙ quiet) cells its said))
-
-    its_cells : (n : ℕ) (required : List PathData) (sets : List (List PathData)) → AllByRecursion (λ c. c.method ≡ n) (cells_in n required sets)
-    its_cells n required sets = mapped (filter (λ held. list_all (has_path held) required) sets)
-      where
-        mapped : (xs : List (List PathData)) → AllByRecursion (λ (c : MethodAtSet). c.method ≡ n) (map (λ held. record { method = n; held = held }) xs)
-        mapped [] = tt
-        mapped (x ∷ xs) = (refl, mapped xs)
-
-    stays_at : (n m : ℕ) (o : Option Method) → slice_get P.methods n ≡ o → counts_as_caller P (overs_at rows) n m ≡ false → (old new : List LineData) → Adds m old new → AreSaid P rel (cells_with rel n o) old → AreSaid P rel (cells_with rel n o) new
-    stays_at n m None is quiet old new adds said = tt
-    stays_at n m (Some method) is quiet old new adds said = subst (AreSaid P rel (cells_with rel n (Some method))) (sym adds.are)
-        (all_stay n m method is quiet (cells_with rel n (Some method)) (its_cells n method.requires_ (subsets_of (rel n))) adds.more old adds.its said)
-
-    -- after lines of a method, where all that look at it wait
-    pub settled_woken : (callers : List (List ℕ)) (m : ℕ) (old new : List LineData) (waits now : List Bool) (woken : List ℕ) → AreCallers P (overs_at rows) callers → m < length callers → woken ≡ callers_of_method callers m → AreSettled P rel old waits → Adds m old new → AreWoken waits now woken
-        → AreSettled P rel new now
-    settled_woken callers m old new waits now woken are below row settled adds wakes n asleep =
-        let kept = wakes n asleep in
-        let quiet = false_from_ne_true (counts_as_caller P (overs_at rows) n m) (λ c. both_ways (has_method woken n) kept.1 (ap (λ r. has_method r n) row ∙ are m n below c)) in
-        stays_at n m (slice_get P.methods n) refl quiet old new adds (settled n kept.0)
+  -- the cells of a method are its own
+  pub its_cells : (n : ℕ) (required : List PathData) (sets : List (List PathData)) → AllByRecursion (λ c. c.method ≡ n) (cells_in n required sets)
+  its_cells n required sets = mapped (filter (λ held. list_all (has_path held) required) sets)
+    where
+      mapped : (xs : List (List PathData)) → AllByRecursion (λ (c : MethodAtSet). c.method ≡ n) (map (λ held. record { method = n; held = held }) xs)
+      mapped [] = tt
+      mapped (x ∷ xs) = (refl, mapped xs)
 
   -- after a method of which nothing new was to be said
   pub settled_asleep : (m : ℕ) (method : Method) (ls now : List LineData) (waits next : List Bool) → slice_get P.methods m ≡ Some method → now ≡ ls → AreSettled P rel ls waits → IsPass P rel (cells_in m method.requires_ (subsets_of (rel m))) ls now false

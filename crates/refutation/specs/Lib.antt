@@ -1,6 +1,6 @@
 -- What the contracts of certificates cite, in this order: lines and their floor (Lines), certificates (Certificates), the work of
 -- judging lines (Works), why lines are no certificate (Wrongs), the passes that write one (Passes), and why there is none (Ends).
--- Tables, Overs, Waiting and ShortPaths serve the private functions.
+-- Tables, Steps, Overs, Waiting and ShortPaths serve the private functions.
 pub mod Lines
 pub mod Certificates
 pub mod Passes
@@ -8,6 +8,7 @@ pub mod Tables
 pub mod Works
 pub mod Wrongs
 pub mod Ends
+pub mod Steps
 pub mod Overs
 pub mod Waiting
 pub mod ShortPaths

@@ -1,23 +1,18 @@
 -- What is said of all methods that override one, kept in one table.
 use Rattle.std.specs.Prelude.{◌≡◌, ℕ, ◌&&◌, Bool, true, false, List, [], ◌∷◌, length}
-use Rattle.paths.specs.Paths.{PathData, path_eq}
+use Rattle.paths.specs.Paths.{PathData}
 use Rattle.algebra.specs.declared.basic.Basic.{Basic}
 use Rattle.algebra.specs.declared.basic.Basic.TheVariants.{Const}
-use Rattle.algebra.specs.Basics.{join_of}
+use Rattle.algebra.specs.Basics.{below_of, join_of}
 use Rattle.algebra.specs.HeldPaths.{Held, has_path}
 use Rattle.core_program.specs.Core.{Program}
 use Rattle.rules.specs.Effect.{Assignment}
-use Rattle.rules.specs.Rules.{IsSubset, AtMost}
+use Rattle.rules.specs.Rules.{IsSubset, AtMost, held_in}
 use Rattle.refutation.specs.Lines.{overriding, joined_over}
 use Rattle.refutation.specs.Tables.{table_entry}
+use Rattle.refutation.specs.Steps.{entry_along}
 use Rattle.refutation.specs.declared.groups.Group.{Group}
-
--- whether two lists have the same paths in the same order
-abbrev pub same_paths : List PathData → List PathData → Bool
-same_paths [] [] = true
-same_paths [] (q ∷ qs) = false
-same_paths (p ∷ ps) [] = false
-same_paths (p ∷ ps) (q ∷ qs) = path_eq p q && same_paths ps qs
+use Rattle.refutation.specs.declared.steps.Step.{Step}
 
 -- each basic of a table, joined with the one at its place in another
 abbrev pub joined_each : List Basic → List Basic → List Basic
@@ -25,14 +20,25 @@ joined_each [] ys = []
 joined_each (x ∷ xs) [] = x ∷ xs
 joined_each (x ∷ xs) (y ∷ ys) = join_of x y ∷ joined_each xs ys
 
--- the greatest of what groups of methods say at a set, each of the relevant paths of its method
-abbrev pub said_in_groups : (rel : ℕ → List PathData) → List Group → Held → Basic
-said_in_groups rel [] H = Const
-said_in_groups rel (g ∷ gs) H = join_of (table_entry (rel g.method) g.table H) (said_in_groups rel gs H)
+-- whether a table has as many basics as another, each at most the one at its place there
+abbrev pub below_each : List Basic → List Basic → Bool
+below_each [] [] = true
+below_each [] (y ∷ ys) = false
+below_each (x ∷ xs) [] = false
+below_each (x ∷ xs) (y ∷ ys) = below_of x y && below_each xs ys
 
--- a group has these relevant paths, and so many basics
-abbrev pub IsAlike : (rel : ℕ → List PathData) → List PathData → (count : ℕ) → Group → Type 0
-IsAlike rel paths count g = (same_paths (rel g.method) paths ≡ true) × (length g.table ≡ count)
+-- the greatest of what groups of methods say at a set of these paths, each along its steps
+abbrev pub said_in_groups : (rel : List PathData) → List Group → Held → Basic
+said_in_groups rel [] H = Const
+said_in_groups rel (g ∷ gs) H = join_of (entry_along g.steps.items rel g.table H) (said_in_groups rel gs H)
+
+-- a group has these steps, and so many basics
+abbrev pub IsAlike : List Step → (count : ℕ) → Group → Type 0
+IsAlike steps count g = (g.steps.items ≡ steps) × (length g.table ≡ count)
+
+-- no more is said of a method than of another, where only relevant paths of that one are held
+abbrev pub SaysNoMore : (rel : ℕ → List PathData) → Assignment → (m other : ℕ) → Type 0
+SaysNoMore rel A m other = (H : Held) → IsSubset H (has_path (rel other)) → AtMost (A m (held_in (rel m) H)) (A other H)
 
 -- where a table is whole, it tells of each part of a method's relevant paths what an assignment says of the methods that override it
 abbrev pub TellsOver : Program → (rel : ℕ → List PathData) → Assignment → ℕ → (table : List Basic) → (whole : Bool) → Type 0

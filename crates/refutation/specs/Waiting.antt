@@ -1,15 +1,15 @@
--- Which methods wait to be asked: a method has something new to be said of it only where one that it calls, or that overrides it, was
--- raised since it was asked last.
+-- Which methods wait to be asked: a method has something new to be said of it only where one that it calls was raised since it was asked
+-- last, or one that overrides it, of which more is said.
 use Rattle.std.specs.Prelude.{◌≡◌, ℕ, ◌<◌, ◌≤◌, Bool, true, false, List, [], ◌++◌, length, Option, Some, None, slice_get}
 use Rattle.std.specs.List.{AllByRecursion}
 use Rattle.paths.specs.Paths.{PathData}
 use Rattle.algebra.specs.declared.basic.Basic.{Basic}
 use Rattle.algebra.specs.Basics.{below_of}
-use Rattle.algebra.specs.HeldPaths.{Held}
+use Rattle.algebra.specs.HeldPaths.{Held, has_path}
 use Rattle.core_program.specs.Core.{Program, Method}
 use Rattle.rules.specs.Called.{has_method}
 use Rattle.rules.specs.Rules.{AtMost}
-use Rattle.refutation.specs.Lines.{LineData, floor, overriding, joined_over}
+use Rattle.refutation.specs.Lines.{LineData, floor, overriding, joined_over, body_effect}
 use Rattle.refutation.specs.Passes.{MethodAtSet, cells_in, subsets_of, floor_at, up_at}
 
 -- the new lines are the old ones, and some more of this method behind them
@@ -35,9 +35,21 @@ cells_with rel m (Some method) = cells_in m method.requires_ (subsets_of (rel m)
 abbrev pub AreSettled : Program → (rel : ℕ → List PathData) → List LineData → (waits : List Bool) → Type 0
 AreSettled P rel ls waits = (m : ℕ) → slice_get waits m ≡ Some false → AreSaid P rel (cells_with rel m (slice_get P.methods m)) ls
 
+-- what the bodies come to at these cells is said
+abbrev pub AreBodiesSaid : Program → (rel : ℕ → List PathData) → List MethodAtSet → List LineData → Type 0
+AreBodiesSaid P rel cs ls = AllByRecursion (λ c. AtMost (body_effect P rel (floor rel ls) (slice_get P.methods c.method) (has_path c.held)) (floor_at P rel ls c)) cs
+
+-- what a body that doesn't wait comes to is said
+abbrev pub AreBodiesSettled : Program → (rel : ℕ → List PathData) → List LineData → (bodies : List Bool) → Type 0
+AreBodiesSettled P rel ls bodies = (m : ℕ) → slice_get bodies m ≡ Some false → AreBodiesSaid P rel (cells_with rel m (slice_get P.methods m)) ls
+
 -- who doesn't wait now didn't before, and is none of these
 abbrev pub AreWoken : (old new : List Bool) → List ℕ → Type 0
 AreWoken old new methods = (m : ℕ) → slice_get new m ≡ Some false → (slice_get old m ≡ Some false) × (has_method methods m ≡ false)
+
+-- who doesn't wait now didn't before, and is none of these, or this holds of it
+abbrev pub AreWokenBut : (ℕ → Type 0) → (old new : List Bool) → List ℕ → Type 0
+AreWokenBut Holds old new methods = (m : ℕ) → slice_get new m ≡ Some false → (slice_get old m ≡ Some false) × (has_method methods m ≡ true → Holds m)
 
 -- who doesn't wait now didn't before, or is this one
 abbrev pub IsAsleep : (old new : List Bool) → ℕ → Type 0

@@ -1,5 +1,5 @@
 //! What is still to be said of one method.
-ghost use Rattle.std.specs.Prelude.{◌∷◌, ◌<◌, [], length, IfOk, OnOk};
+ghost use Rattle.std.specs.Prelude.{◌≡◌, ◌∷◌, ◌<◌, [], true, length, IfOk, OnOk};
 ghost use Rattle.std.specs.List.{AllByRecursion};
 ghost use Rattle.std.specs.List.Sorted.{IsStrictlySortedBy};
 ghost use Rattle.paths.specs.Paths.{path_order};
@@ -13,13 +13,13 @@ ghost use Rattle.refutation.specs.Tables.{said_by};
 ghost use Rattle.refutation.specs.Passes.{cells_in, subsets_of};
 ghost use Rattle.refutation.specs.Ends.{KeptAgrees, IsPass, cells_at};
 ghost use Rattle.refutation.specs.Overs.{IsSaidOver};
-ghost use Rattle.refutation.specs.Waiting.{Adds};
+ghost use Rattle.refutation.specs.Waiting.{Adds, AreBodiesSaid};
 
 use crate::check::keeps_bound;
 use crate::floors::Floors;
 use crate::judged::Judged;
 use crate::line::Line;
-use crate::overs::{OverSaid, said_of_overriding};
+use crate::overs::{OverSaid, said_of_overriding, tells_as_much};
 use crate::parts::{HeldSet, parts_with};
 use crate::said::Said;
 use crate::short_path::packed;
@@ -107,24 +107,31 @@ pub(crate) fn said_at_most(judged: &Judged<'_>, floors: &Floors<'_>, method: Met
     )
 }
 
-/// Asks of a method at each part of its relevant paths that has its required ones, up to the first line that is above its bound.
+/// Asks of a method at each part of its relevant paths that has its required ones, up to the first line that is above its bound. Where
+/// what its body comes to is said there, and as much is said of it as of the methods that override it, none of them is asked at.
 pub(crate) fn ask_method(
     alloc: Global,
     judged: &Judged<'_>,
     said: &mut Said<'_>,
     id: MethodId,
     method: &CoreMethod,
+    is_said: bool,
 ) -> Result<bool, NoMemory>
     requires there { id < length (program_of judged.now.program.now).methods }
     requires over { AreOverriders (program_of judged.now.program.now) judged.now.over.now }
     requires relevant { AreRelevant (program_of judged.now.program.now) judged.now.sets.now }
     requires agrees { KeptAgrees (program_of judged.now.program.now) judged.now.sets.now said.old.floors.sets.now said.old.floors.tables.items said.old.lines.items }
+    requires body { let rel = rel_of judged.now.sets.now in
+        is_said ≡ true → AreBodiesSaid (program_of judged.now.program.now) rel (cells_in id (method_of method.now).requires_ (subsets_of (rel id))) said.old.lines.items }
     ensures agrees { OnOk result (KeptAgrees (program_of judged.now.program.now) judged.now.sets.now said.new.floors.sets.now said.new.floors.tables.items said.new.lines.items) }
     ensures adds { OnOk result (Adds id said.old.lines.items said.new.lines.items) }
     ensures asked { IfOk result (λ broken. let rel = rel_of judged.now.sets.now in
         IsPass (program_of judged.now.program.now) rel (cells_in id (method_of method.now).requires_ (subsets_of (rel id))) said.old.lines.items said.new.lines.items broken) }
 {
-    let parts = parts_with(alloc, judged.sets.rel(id), method.requires_.as_slice())?;
     let over = said_of_overriding(alloc, judged, &said.floors, id)?;
+    if is_said && tells_as_much(&said.floors, &over, id) {
+        return Ok(false);
+    }
+    let parts = parts_with(alloc, judged.sets.rel(id), method.requires_.as_slice())?;
     ask_sets(alloc, judged, said, &over, id, parts.as_slice())
 }

@@ -104,7 +104,7 @@ fn raise(rel: &[Path], held: &[Path], found: Basic, table: &mut [Basic])
 }
 
 /// The method at a place. There is no memory for more methods than numbers.
-fn method_at(place: usize) -> Result<MethodId, NoMemory>
+pub(crate) fn method_at(place: usize) -> Result<MethodId, NoMemory>
     ensures { IfOk result (λ method. method ≡ place) }
 {
     match u32::try_from(place) {

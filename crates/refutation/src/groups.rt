@@ -1,42 +1,31 @@
-//! What is said of several methods, in one table for all that have the same relevant paths.
-ghost use Rattle.std.specs.Prelude.{◌≡◌, ◌<◌, ℕ, true, List, length, map, slice_get, IfOk, IfSome, OnOk};
+//! What is said of several methods, in one table for all whose relevant paths stand alike to those of a method that they override.
+ghost use Rattle.std.specs.Prelude.{◌≡◌, ◌<◌, true, List, length, map, slice_get, IfOk, IfSome};
 ghost use Rattle.paths.specs.Paths.{PathData};
 ghost use Rattle.algebra.specs.Basics.{join_of};
-ghost use Rattle.algebra.specs.HeldPaths.{Held};
+ghost use Rattle.algebra.specs.HeldPaths.{Held, has_path};
 ghost use Rattle.algebra.specs.Tables.{count_of_parts};
 ghost use Rattle.rules.specs.Near.{rel_of};
-ghost use Rattle.rules.specs.Rules.{held_in};
+ghost use Rattle.rules.specs.Rules.{IsSubset};
 ghost use Rattle.refutation.specs.Lines.{joined_over};
 ghost use Rattle.refutation.specs.Tables.{said_by, table_entry};
-ghost use Rattle.refutation.specs.Overs.{IsAlike, joined_each, said_in_groups, same_paths};
+ghost use Rattle.refutation.specs.Overs.{IsAlike, joined_each, said_in_groups};
+ghost use Rattle.refutation.specs.Steps.{entry_along};
 
 use crate::floors::{Floors, Table, table_at};
-use algebra::{Basic, front, half, has};
+use crate::steps::{Alignment, Step, align, same_steps};
+use algebra::{Basic, front, half};
+use arrayvec::ArrayVec;
 use paths::{MethodId, Path};
-use rules::RelevantSets;
 use std::alloc::{AllocError as NoMemory, Global};
 
-/// So many groups are looked at for the one that a method belongs to. What has other paths than these gets a group of its own.
+/// So many groups are looked at for the one that a method belongs to. What has other steps than these gets a group of its own.
 const GROUPS_LOOKED_AT: usize = 128;
 
-/// The greatest of what is said of some methods, which have the relevant paths of this one.
+/// The greatest of what is said of some methods, whose relevant paths stand so to those of one that they override.
 #[derive(Drop)]
 pub(crate) struct Group {
-    pub(crate) method: MethodId,
+    pub(crate) steps: Alignment,
     pub(crate) table: Table,
-}
-
-/// Whether two lists have the same paths in the same order.
-fn are_same(paths: &[Path], others: &[Path]) -> bool
-    ensures { result ≡ same_paths paths.now others.now }
-{
-    let Some((path, rest)) = paths.split_first() else {
-        return others.is_empty();
-    };
-    match others.split_first() {
-        Some((other, behind)) => path.same(other) && are_same(rest, behind),
-        None => false,
-    }
 }
 
 /// Joins each basic of a table with the one at its place in another.
@@ -58,15 +47,14 @@ fn join_all(table: &mut [Basic], found: Basic)
     }
 }
 
-/// The place of a group with these relevant paths and so many basics, if there is one among those that are looked at.
-fn alike(sets: &RelevantSets, groups: &[Group], rel: &[Path], count: usize) -> Option<usize>
+/// The place of a group with these steps and so many basics, if there is one among those that are looked at.
+fn alike(groups: &[Group], steps: &[Step], count: usize) -> Option<usize>
     ensures within { IfSome result (λ at. at < length groups.now) }
-    ensures its { IfSome result (λ at. IfSome (slice_get groups.now at) (IsAlike (rel_of sets.now) rel.now count)) }
+    ensures its { IfSome result (λ at. IfSome (slice_get groups.now at) (IsAlike steps.now count)) }
 {
     for at in 0..groups.len().min(GROUPS_LOOKED_AT) {
         let group = &groups[at];
-        let its = group.table.basics.as_slice();
-        if its.len() == count && are_same(sets.rel(group.method), rel) {
+        if group.table.basics.len() == count && same_steps(group.steps.as_slice(), steps) {
             return Some(at);
         }
     }
@@ -85,98 +73,100 @@ fn join_table(table: &mut Table, other: &[Basic])
 fn join_at(groups: &mut [Group], at: usize, its: &[Basic])
     requires within { at < length groups.old }
     requires size { IfSome (slice_get groups.old at) (λ g. length g.table ≡ length its.now) }
-    ensures { (rel : ℕ → List PathData) → (H : Held) →
-        IfSome (slice_get groups.old at) (λ g. said_in_groups rel groups.new H ≡ join_of (said_in_groups rel groups.old H) (table_entry (rel g.method) its.now H)) }
+    ensures { (rel : List PathData) → (H : Held) →
+        IfSome (slice_get groups.old at) (λ g. said_in_groups rel groups.new H ≡ join_of (said_in_groups rel groups.old H) (entry_along g.steps.items rel its.now H)) }
 {
     let group = &mut groups[at];
     join_table(&mut group.table, its);
 }
 
-/// Joins what is said of one method more into the groups.
+/// Joins what is said of one method more into the groups, and says whether it could.
 fn join_method(
     alloc: Global,
     floors: &Floors<'_>,
+    rel: &[Path],
     groups: &mut Vec<Group>,
     method: MethodId,
-) -> Result<(), NoMemory>
+) -> Result<bool, NoMemory>
     ensures { let all = rel_of floors.now.sets.now in
-        OnOk result ((H : Held) → said_in_groups all groups.new.items H ≡ join_of (said_in_groups all groups.old.items H) (said_by all floors.now.tables.items method H)) }
+        IfOk result (λ could. could ≡ true → (H : Held) → IsSubset H (has_path rel.now) → said_in_groups rel.now groups.new.items H ≡ join_of (said_in_groups rel.now groups.old.items H) (said_by all floors.now.tables.items method H)) }
 {
+    let mut steps = ArrayVec::new();
+    if !align(rel, rel, floors.sets.rel(method), &mut steps) {
+        return Ok(false);
+    }
     let its = table_at(floors.tables.as_slice(), method);
-    let rel = floors.sets.rel(method);
-    if let Some(at) = alike(floors.sets, groups.as_slice(), rel, its.len()) {
+    if let Some(at) = alike(groups.as_slice(), steps.as_slice(), its.len()) {
         join_at(groups.as_mut_slice(), at, its);
-        return Ok(());
+        return Ok(true);
     }
     let mut basics = Vec::new(alloc);
     basics.extend_from_slice(its)?;
     groups.push(Group {
-        method,
+        steps,
         table: Table { basics },
     })?;
-    Ok(())
+    Ok(true)
 }
 
-/// The groups of these methods.
+/// The groups of these methods, for one with these relevant paths; none where they have paths in another order.
 pub(crate) fn groups_of(
     alloc: Global,
     floors: &Floors<'_>,
+    rel: &[Path],
     methods: &[MethodId],
-) -> Result<Vec<Group>, NoMemory>
+) -> Result<Option<Vec<Group>>, NoMemory>
     ensures { let all = rel_of floors.now.sets.now in
-        IfOk result (λ groups. (H : Held) → said_in_groups all groups.items H ≡ joined_over all (said_by all floors.now.tables.items) methods.now H) }
+        IfOk result (λ told. IfSome told (λ groups. (H : Held) → IsSubset H (has_path rel.now) → said_in_groups rel.now groups.items H ≡ joined_over all (said_by all floors.now.tables.items) methods.now H)) }
 {
     let mut groups = Vec::new(alloc);
     for method in methods {
-        join_method(alloc, floors, &mut groups, *method)?;
+        if !join_method(alloc, floors, rel, &mut groups, *method)? {
+            return Ok(None);
+        }
     }
-    Ok(groups)
+    Ok(Some(groups))
 }
 
-/// Joins what a table says at its paths into a table of these relevant ones, and says whether it could. Where both lists ascend it can.
-fn join_in(rel: &[Path], its: &[Path], into: &mut [Basic], from: &[Basic]) -> bool
+/// Joins what a table says along some steps into a table of these relevant paths, and says whether it could.
+fn join_along(steps: &[Step], rel: &[Path], into: &mut [Basic], from: &[Basic]) -> bool
     requires { length into.old ≡ count_of_parts rel.now }
-    ensures { result ≡ true → (H : Held) → table_entry rel.now into.new H ≡ join_of (table_entry rel.now into.old H) (table_entry its.now from.now (held_in rel.now H)) }
+    ensures { result ≡ true → (H : Held) → table_entry rel.now into.new H ≡ join_of (table_entry rel.now into.old H) (entry_along steps.now rel.now from.now H) }
 {
-    let Some((path, behind)) = its.split_first() else {
+    let Some((step, behind)) = steps.split_first() else {
         join_all(into, front(from));
         return true;
     };
-    if !has(rel, path) {
-        return join_in(rel, behind, into, half(from, false));
-    }
-    let Some((first, rest)) = rel.split_first() else {
-        return false;
-    };
-    let middle = into.len() / 2;
-    let (without, with) = into.split_at_mut(middle);
-    if !first.same(path) {
-        if has(its, first) {
-            return false;
+    match step {
+        Step::Second => join_along(behind, rel, into, half(from, false)),
+        Step::First => {
+            let Some((_, rest)) = rel.split_first() else {
+                return false;
+            };
+            let middle = into.len() / 2;
+            let (without, with) = into.split_at_mut(middle);
+            join_along(behind, rest, without, from) && join_along(behind, rest, with, from)
         }
-        return join_in(rest, its, without, from) && join_in(rest, its, with, from);
+        Step::Both => {
+            let Some((_, rest)) = rel.split_first() else {
+                return false;
+            };
+            let middle = into.len() / 2;
+            let (without, with) = into.split_at_mut(middle);
+            join_along(behind, rest, without, half(from, false))
+                && join_along(behind, rest, with, half(from, true))
+        }
     }
-    if has(behind, path) {
-        return false;
-    }
-    join_in(rest, behind, without, half(from, false))
-        && join_in(rest, behind, with, half(from, true))
 }
 
 /// Joins what the groups say into a table of these relevant paths, and says whether it could.
-pub(crate) fn join_groups(
-    sets: &RelevantSets,
-    groups: &[Group],
-    rel: &[Path],
-    table: &mut [Basic],
-) -> bool
+pub(crate) fn join_groups(groups: &[Group], rel: &[Path], table: &mut [Basic]) -> bool
     requires { length table.old ≡ count_of_parts rel.now }
-    ensures { let all = rel_of sets.now in
-        result ≡ true → (H : Held) → table_entry rel.now table.new H ≡ join_of (table_entry rel.now table.old H) (said_in_groups all groups.now (held_in rel.now H)) }
+    ensures { result ≡ true → (H : Held) → table_entry rel.now table.new H ≡ join_of (table_entry rel.now table.old H) (said_in_groups rel.now groups.now H) }
 {
     let Some((group, others)) = groups.split_first() else {
         return true;
     };
     let its = group.table.basics.as_slice();
-    join_in(rel, sets.rel(group.method), table, its) && join_groups(sets, others, rel, table)
+    join_along(group.steps.as_slice(), rel, table, its) && join_groups(others, rel, table)
 }

@@ -18,6 +18,7 @@ mod passes;
 mod said;
 mod short_path;
 mod skip;
+mod steps;
 mod text_front;
 mod text_reader;
 mod text_writer;

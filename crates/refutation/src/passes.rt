@@ -8,14 +8,14 @@ ghost use Rattle.rules.specs.Called.{AreCallers};
 ghost use Rattle.refutation.specs.Certificates.{IsCertificate};
 ghost use Rattle.refutation.specs.Passes.{Passes, pass, cells_of};
 ghost use Rattle.refutation.specs.Ends.{KeptAgrees, IsBlameEnd};
-ghost use Rattle.refutation.specs.Waiting.{AreSettled};
+ghost use Rattle.refutation.specs.Waiting.{AreSettled, AreBodiesSettled};
 
 use crate::floors::Floors;
-use crate::judged::{Asking, Judged};
+use crate::judged::{Asking, Judged, NoneOverriding};
 use crate::line::Blame;
 use crate::said::Said;
 use crate::waiting::ask_noting;
-use crate::waits::Waits;
+use crate::waits::{Waiting, Waits};
 use core_program::CoreProgram;
 use paths::MethodId;
 use rules::{RelevantSets, callers_of, overriders};
@@ -47,31 +47,37 @@ fn pass(
     alloc: Global,
     asking: &Asking<'_>,
     said: &mut Said<'_>,
-    waits: &mut Waits,
+    waits: &mut Waiting,
 ) -> Result<bool, NoMemory>
     requires few { length (program_of asking.now.judged.now.program.now).methods ≤ 2 ^ 32 }
     requires over { AreOverriders (program_of asking.now.judged.now.program.now) asking.now.judged.now.over.now }
     requires callers { AreCallers (program_of asking.now.judged.now.program.now) (overs_at asking.now.judged.now.over.now) asking.now.callers.now }
     requires rows { length asking.now.callers.now ≡ length (program_of asking.now.judged.now.program.now).methods }
-    requires waits { length waits.old ≡ length (program_of asking.now.judged.now.program.now).methods }
+    requires calls { AreCallers (program_of asking.now.judged.now.program.now) (overs_at []) asking.now.calls.now }
+    requires call_rows { length asking.now.calls.now ≡ length (program_of asking.now.judged.now.program.now).methods }
+    requires waits { length waits.old.methods ≡ length (program_of asking.now.judged.now.program.now).methods }
+    requires body_waits { length waits.old.bodies ≡ length (program_of asking.now.judged.now.program.now).methods }
     requires relevant { AreRelevant (program_of asking.now.judged.now.program.now) asking.now.judged.now.sets.now }
     requires agrees { KeptAgrees (program_of asking.now.judged.now.program.now) asking.now.judged.now.sets.now said.old.floors.sets.now said.old.floors.tables.items said.old.lines.items }
-    requires settled { AreSettled (program_of asking.now.judged.now.program.now) (rel_of asking.now.judged.now.sets.now) said.old.lines.items waits.old }
+    requires settled { AreSettled (program_of asking.now.judged.now.program.now) (rel_of asking.now.judged.now.sets.now) said.old.lines.items waits.old.methods }
+    requires bodies { AreBodiesSettled (program_of asking.now.judged.now.program.now) (rel_of asking.now.judged.now.sets.now) said.old.lines.items waits.old.bodies }
     ensures agrees { OnOk result (KeptAgrees (program_of asking.now.judged.now.program.now) asking.now.judged.now.sets.now said.new.floors.sets.now said.new.floors.tables.items said.new.lines.items) }
-    ensures size { length waits.new ≡ length waits.old }
-    ensures settled { IfOk result (λ broken. broken ≡ false → AreSettled (program_of asking.now.judged.now.program.now) (rel_of asking.now.judged.now.sets.now) said.new.lines.items waits.new) }
+    ensures size { length waits.new.methods ≡ length waits.old.methods }
+    ensures body_size { length waits.new.bodies ≡ length waits.old.bodies }
+    ensures settled { IfOk result (λ broken. broken ≡ false → AreSettled (program_of asking.now.judged.now.program.now) (rel_of asking.now.judged.now.sets.now) said.new.lines.items waits.new.methods) }
+    ensures bodies { IfOk result (λ broken. broken ≡ false → AreBodiesSettled (program_of asking.now.judged.now.program.now) (rel_of asking.now.judged.now.sets.now) said.new.lines.items waits.new.bodies) }
     ensures passed { IfOk result (λ broken. let P = program_of asking.now.judged.now.program.now in let rel = rel_of asking.now.judged.now.sets.now in
         pass P rel (cells_of P rel) said.old.lines.items ≡ record { all = said.new.lines.items; broken = broken }) }
 {
     let methods = asking.judged.program.methods();
-    let mut place = waits.next(0);
+    let mut place = waits.methods.next(0);
     while place < methods.len() {
         let id = MethodId(place as u32);
         let method = &methods[place];
         if ask_noting(alloc, asking, said, waits, id, method)? {
             return Ok(true);
         }
-        place = waits.next(place + 1);
+        place = waits.methods.next(place + 1);
     }
     Ok(false)
 }
@@ -82,23 +88,27 @@ fn passes(
     alloc: Global,
     asking: &Asking<'_>,
     said: &mut Said<'_>,
-    waits: &mut Waits,
+    waits: &mut Waiting,
 ) -> Result<bool, NoMemory>
     requires few { length (program_of asking.now.judged.now.program.now).methods ≤ 2 ^ 32 }
     requires over { AreOverriders (program_of asking.now.judged.now.program.now) asking.now.judged.now.over.now }
     requires callers { AreCallers (program_of asking.now.judged.now.program.now) (overs_at asking.now.judged.now.over.now) asking.now.callers.now }
     requires rows { length asking.now.callers.now ≡ length (program_of asking.now.judged.now.program.now).methods }
-    requires waits { length waits.old ≡ length (program_of asking.now.judged.now.program.now).methods }
+    requires calls { AreCallers (program_of asking.now.judged.now.program.now) (overs_at []) asking.now.calls.now }
+    requires call_rows { length asking.now.calls.now ≡ length (program_of asking.now.judged.now.program.now).methods }
+    requires waits { length waits.old.methods ≡ length (program_of asking.now.judged.now.program.now).methods }
+    requires body_waits { length waits.old.bodies ≡ length (program_of asking.now.judged.now.program.now).methods }
     requires relevant { AreRelevant (program_of asking.now.judged.now.program.now) asking.now.judged.now.sets.now }
     requires agrees { KeptAgrees (program_of asking.now.judged.now.program.now) asking.now.judged.now.sets.now said.old.floors.sets.now said.old.floors.tables.items said.old.lines.items }
     requires none { said.old.lines.items ≡ [] }
-    requires settled { AreSettled (program_of asking.now.judged.now.program.now) (rel_of asking.now.judged.now.sets.now) said.old.lines.items waits.old }
+    requires settled { AreSettled (program_of asking.now.judged.now.program.now) (rel_of asking.now.judged.now.sets.now) said.old.lines.items waits.old.methods }
+    requires bodies { AreBodiesSettled (program_of asking.now.judged.now.program.now) (rel_of asking.now.judged.now.sets.now) said.old.lines.items waits.old.bodies }
     ensures agrees { OnOk result (KeptAgrees (program_of asking.now.judged.now.program.now) asking.now.judged.now.sets.now said.new.floors.sets.now said.new.floors.tables.items said.new.lines.items) }
     ensures passes { IfOk result (λ broken. Passes (program_of asking.now.judged.now.program.now) (rel_of asking.now.judged.now.sets.now) [] (record { all = said.new.lines.items; broken = broken })) }
 {
     'rounds: loop {
         let before = said.lines.len();
-        waits.narrow();
+        waits.methods.narrow();
         if pass(alloc, asking, said, waits)? {
             return Ok(true);
         }
@@ -126,9 +136,12 @@ pub fn blame(alloc: Global, program: &CoreProgram, sets: &RelevantSets) -> Resul
 {
     let over = overriders(alloc, program)?;
     let callers = callers_of(alloc, program, &over)?;
+    let calls = callers_of(alloc, program, &NoneOverriding)?;
     let count = program.methods().len();
     let floors = Floors::new(alloc, sets, count)?;
-    let mut waits = Waits::all(alloc, count)?;
+    let methods = Waits::all(alloc, count)?;
+    let bodies = Waits::all(alloc, count)?;
+    let mut waits = Waiting { methods, bodies };
     let lines = Vec::new(alloc);
     let judged = Judged {
         program,
@@ -138,6 +151,7 @@ pub fn blame(alloc: Global, program: &CoreProgram, sets: &RelevantSets) -> Resul
     let asking = Asking {
         judged: &judged,
         callers: callers.as_slice(),
+        calls: calls.as_slice(),
     };
     let mut said = Said { floors, lines };
     if passes(alloc, &asking, &mut said, &mut waits)? {

@@ -1,5 +1,5 @@
 //! Asking one method, and which methods wait then.
-ghost use Rattle.std.specs.Prelude.{◌≡◌, ◌<◌, [], length, Some, IfOk, OnOk, false, slice_get};
+ghost use Rattle.std.specs.Prelude.{◌≡◌, ◌<◌, ◌∷◌, [], length, Some, IfOk, OnOk, false, slice_get};
 ghost use Rattle.core_program.specs.Views.{program_of, method_of};
 ghost use Rattle.rules.specs.Near.{AreRelevant, rel_of};
 ghost use Rattle.rules.specs.Overriding.{AreOverriders};
@@ -7,12 +7,16 @@ ghost use Rattle.rules.specs.Search.{row_at as overs_at};
 ghost use Rattle.rules.specs.Called.{AreCallers, callers_of_method};
 ghost use Rattle.refutation.specs.Ends.{KeptAgrees, IsPass};
 ghost use Rattle.refutation.specs.Passes.{cells_in, subsets_of};
-ghost use Rattle.refutation.specs.Waiting.{AreSettled, AreWoken};
+ghost use Rattle.refutation.specs.Overs.{SaysNoMore};
+ghost use Rattle.refutation.specs.Tables.{said_by};
+ghost use Rattle.refutation.specs.Waiting.{AreSettled, AreBodiesSettled, AreWoken, AreWokenBut};
 
 use crate::ask::ask_method;
+use crate::floors::{Floors, method_at};
 use crate::judged::Asking;
+use crate::overs::says_no_more;
 use crate::said::Said;
-use crate::waits::Waits;
+use crate::waits::{Waiting, Waits};
 use core_program::CoreMethod;
 use paths::MethodId;
 use rules::Callers;
@@ -28,6 +32,45 @@ fn wake(waits: &mut Waits, methods: &[usize])
     }
 }
 
+/// Lets a method wait where more is said of one that rose than of the method itself.
+#[tactic(auto, using(crate::proofs::RiseLemmas::not_woken, crate::proofs::RiseLemmas::woken_one))]
+fn wake_below(
+    waits: &mut Waits,
+    floors: &Floors<'_>,
+    place: usize,
+    risen: MethodId,
+) -> Result<(), NoMemory>
+    ensures size { length waits.new ≡ length waits.old }
+    ensures woken { let rel = rel_of floors.now.sets.now in
+        OnOk result (AreWokenBut (SaysNoMore rel (said_by rel floors.now.tables.items) risen) waits.old waits.new (place ∷ [])) }
+{
+    if !waits.is_asleep(place) {
+        return Ok(());
+    }
+    if says_no_more(floors, risen, method_at(place)?) {
+        return Ok(());
+    }
+    waits.wake(place);
+    Ok(())
+}
+
+/// Lets those of some methods wait where more is said of one that rose than of them.
+fn wake_overridden(
+    waits: &mut Waits,
+    floors: &Floors<'_>,
+    methods: &[usize],
+    risen: MethodId,
+) -> Result<(), NoMemory>
+    ensures size { length waits.new ≡ length waits.old }
+    ensures woken { let rel = rel_of floors.now.sets.now in
+        OnOk result (AreWokenBut (SaysNoMore rel (said_by rel floors.now.tables.items) risen) waits.old waits.new methods.now) }
+{
+    for place in methods {
+        wake_below(waits, floors, *place, risen)?;
+    }
+    Ok(())
+}
+
 /// The callers of the method at a place; none where there is no such row.
 fn callers_at(rows: &[Callers], place: usize) -> &[usize]
     ensures { result.now ≡ callers_of_method rows.now place }
@@ -39,12 +82,13 @@ fn callers_at(rows: &[Callers], place: usize) -> &[usize]
 }
 
 /// Asks of a method at each part of its relevant paths that has its required ones, up to the first line that is above its bound. Where
-/// that adds a line, the methods that call it wait, and those that it overrides, and it waits itself; else it waits no longer.
+/// that adds a line, the methods that call it wait, and it waits itself, and so do those that it overrides of which less is said; else it
+/// waits no longer. The bodies of those that call it wait too.
 pub(crate) fn ask_noting(
     alloc: Global,
     asking: &Asking<'_>,
     said: &mut Said<'_>,
-    waits: &mut Waits,
+    waits: &mut Waiting,
     id: MethodId,
     method: &CoreMethod,
 ) -> Result<bool, NoMemory>
@@ -52,25 +96,36 @@ pub(crate) fn ask_noting(
     requires over { AreOverriders (program_of asking.now.judged.now.program.now) asking.now.judged.now.over.now }
     requires callers { AreCallers (program_of asking.now.judged.now.program.now) (overs_at asking.now.judged.now.over.now) asking.now.callers.now }
     requires rows { length asking.now.callers.now ≡ length (program_of asking.now.judged.now.program.now).methods }
-    requires waits { length waits.old ≡ length (program_of asking.now.judged.now.program.now).methods }
+    requires calls { AreCallers (program_of asking.now.judged.now.program.now) (overs_at []) asking.now.calls.now }
+    requires call_rows { length asking.now.calls.now ≡ length (program_of asking.now.judged.now.program.now).methods }
+    requires waits { length waits.old.methods ≡ length (program_of asking.now.judged.now.program.now).methods }
+    requires body_waits { length waits.old.bodies ≡ length (program_of asking.now.judged.now.program.now).methods }
     requires relevant { AreRelevant (program_of asking.now.judged.now.program.now) asking.now.judged.now.sets.now }
     requires agrees { KeptAgrees (program_of asking.now.judged.now.program.now) asking.now.judged.now.sets.now said.old.floors.sets.now said.old.floors.tables.items said.old.lines.items }
-    requires settled { AreSettled (program_of asking.now.judged.now.program.now) (rel_of asking.now.judged.now.sets.now) said.old.lines.items waits.old }
+    requires settled { AreSettled (program_of asking.now.judged.now.program.now) (rel_of asking.now.judged.now.sets.now) said.old.lines.items waits.old.methods }
+    requires bodies { AreBodiesSettled (program_of asking.now.judged.now.program.now) (rel_of asking.now.judged.now.sets.now) said.old.lines.items waits.old.bodies }
     ensures agrees { OnOk result (KeptAgrees (program_of asking.now.judged.now.program.now) asking.now.judged.now.sets.now said.new.floors.sets.now said.new.floors.tables.items said.new.lines.items) }
     ensures asked { IfOk result (λ broken. let rel = rel_of asking.now.judged.now.sets.now in
         IsPass (program_of asking.now.judged.now.program.now) rel (cells_in id (method_of method.now).requires_ (subsets_of (rel id))) said.old.lines.items said.new.lines.items broken) }
-    ensures size { length waits.new ≡ length waits.old }
-    ensures settled { IfOk result (λ broken. broken ≡ false → AreSettled (program_of asking.now.judged.now.program.now) (rel_of asking.now.judged.now.sets.now) said.new.lines.items waits.new) }
+    ensures size { length waits.new.methods ≡ length waits.old.methods }
+    ensures body_size { length waits.new.bodies ≡ length waits.old.bodies }
+    ensures settled { IfOk result (λ broken. broken ≡ false → AreSettled (program_of asking.now.judged.now.program.now) (rel_of asking.now.judged.now.sets.now) said.new.lines.items waits.new.methods) }
+    ensures bodies { IfOk result (λ broken. broken ≡ false → AreBodiesSettled (program_of asking.now.judged.now.program.now) (rel_of asking.now.judged.now.sets.now) said.new.lines.items waits.new.bodies) }
 {
     let before = said.lines.len();
-    if ask_method(alloc, asking.judged, said, id, method)? {
+    let place = id.0 as usize;
+    let is_said = !waits.bodies.has(place);
+    if ask_method(alloc, asking.judged, said, id, method, is_said)? {
         return Ok(true);
     }
-    let place = id.0 as usize;
     if said.lines.len() == before {
-        waits.sleep(place);
+        waits.methods.sleep(place);
+        waits.bodies.sleep(place);
         return Ok(false);
     }
-    wake(waits, callers_at(asking.callers, place));
+    wake(&mut waits.methods, callers_at(asking.calls, place));
+    let looking = callers_at(asking.callers, place);
+    wake_overridden(&mut waits.methods, &said.floors, looking, id)?;
+    wake(&mut waits.bodies, callers_at(asking.calls, place));
     Ok(false)
 }

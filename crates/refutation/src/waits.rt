@@ -1,5 +1,5 @@
 //! Which methods wait to be asked.
-ghost use Rattle.std.specs.Prelude.{◌≡◌, ◌<◌, ◌≤◌, ◌∷◌, [], ℕ, length, Some, IfOk, false, slice_get};
+ghost use Rattle.std.specs.Prelude.{◌≡◌, ◌<◌, ◌≤◌, ◌∷◌, [], ℕ, length, Some, IfOk, true, false, slice_get};
 ghost use Rattle.refutation.specs.Waiting.{AreWoken, IsAsleep};
 
 use std::alloc::{AllocError as NoMemory, Global};
@@ -22,6 +22,14 @@ impl Model for Waits {
     ghost view = { λ w. w.flags.items };
 
     ghost invariant = { λ w. WaitWithin w.flags.items w.first w.end };
+}
+
+/// Which methods wait to be asked, and whose bodies do. A method that waits while its body doesn't does so only since one that overrides it
+/// rose.
+#[derive(Drop)]
+pub(crate) struct Waiting {
+    pub(crate) methods: Waits,
+    pub(crate) bodies: Waits,
 }
 
 /// The end of the places before this one, without those at the end that don't wait.
@@ -69,6 +77,24 @@ impl Waits {
             at += 1;
         }
         self.flags.len()
+    }
+
+    /// Whether a method, which is there, waits.
+    pub(crate) fn has(&self, method: usize) -> bool
+        requires { method < length self.now }
+        ensures { slice_get self.now method ≡ Some result }
+    {
+        self.flags[method]
+    }
+
+    /// Whether a method is there and doesn't wait.
+    pub(crate) fn is_asleep(&self, method: usize) -> bool
+        ensures { slice_get self.now method ≡ Some false → result ≡ true }
+    {
+        match self.flags.get(method) {
+            Some(waits) => !*waits,
+            None => false,
+        }
     }
 
     /// Passes over the methods at both ends that don't wait.

@@ -10,7 +10,7 @@ use Rattle.algebra.specs.HeldPaths.{Held, has_path, with_path, holds_at}
 use Rattle.core_program.specs.Core.{Program, Stmt, EmptyS, BlockS, LocalS, SetVarS, SetFieldS, DoS, IfS, WhileS, SyncS, ReturnS, PrintS, StartS}
 use Rattle.core_program.specs.Locks.{path_of}
 use Rattle.rules.specs.Effect.{held_under, after_local, after_stmt}
-use Rattle.rules.specs.Rules.{IsSubset}
+use Rattle.rules.specs.Rules.{IsSubset, held_in}
 
 pub first : (a b : Bool) → (a && b) ≡ true → a ≡ true
 first true b h = refl
@@ -34,6 +34,15 @@ has_all [] H part = refl
 has_all (p ∷ ps) H part =
     and_from (H p) (list_all H ps) (part p (or_left (path_eq p p) (has_path ps p) (eq_itself p)))
     (has_all ps H (λ q has. part q (or_right (path_eq p q) (has_path ps q) has)))
+
+-- a set of relevant paths has no others
+pub held_whole : (rel : List PathData) (H : Held) → IsSubset H (has_path rel) → held_in rel H ≡ H
+held_whole rel H part = λ i q. whole (has_path rel q) (H q) (part q) i
+  where
+    whole : (r h : Bool) → (h ≡ true → r ≡ true) → (r && h) ≡ h
+    whole true h there = refl
+    whole false false there = refl
+    whole false true there = there refl
 
 and_part : (a b d : Bool) → (b ≡ true → d ≡ true) → (a && b) ≡ true → (a && d) ≡ true
 and_part true b d h e = h e

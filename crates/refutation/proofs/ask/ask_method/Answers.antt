@@ -1,13 +1,16 @@
--- The parts of the relevant paths ascend, and what is said of the methods that override is that of the lines so far.
-use Rattle.std.proofs.Common.{◌∙◌, subst}
+-- Where as much is said already, nothing new is to be said. Else the parts of the relevant paths ascend, and what is said of the methods that override is that of the lines so far.
+use Rattle.std.proofs.Common.{◌≡◌, true, rules, sym, ◌∙◌, subst}
 use Rattle.std.specs.List.{AllByRecursion}
 use Rattle.algebra.specs.HeldPaths.{has_path}
-use Rattle.core_program.specs.Views.{program_of}
+use Rattle.core_program.specs.Views.{program_of, method_of}
 use Rattle.rules.specs.Near.{rel_of}
 use Rattle.rules.specs.Rules.{IsSubset}
 use Rattle.refutation.specs.Lines.{floor}
+use Rattle.refutation.specs.Passes.{cells_in, subsets_of}
 use Rattle.refutation.specs.Overs.{IsSaidOver}
+use Rattle.refutation.proofs.BodyLemmas.{over_said, said_of_bodies}
 use Rattle.refutation.proofs.MakerLemmas.{asked_ascend, asked_inside}
+use Rattle.refutation.proofs.WaitLemmas.{said_asked}
 use Rattle.refutation.proofs.ask.ask_method.Goals as goal
 
 pub ask_sets-requires-clause-ascend : goal.ask_sets-requires-clause-ascend
@@ -27,3 +30,20 @@ ask_sets-requires-clause-inside c =
     let parts = c.as_slice-2.result.now in
     subst (λ ps. AllByRecursion (λ held. IsSubset (has_path held) (has_path ps)) parts) c.rel.ensures
     (asked_inside rel c.as_slice.result.now parts (c.as_slice-2.ensures.value ∙ c.in_ok-parts.ensures))
+
+pub returns-then-tells_as_much-clause-asked : goal.returns-then-tells_as_much-clause-asked
+returns-then-tells_as_much-clause-asked c =
+    let P = program_of c.args.judged.now.program.now in
+    let sets = c.args.judged.now.sets.now in
+    let rel = rel_of sets in
+    let m = c.args.id in
+    let lines = c.args.said.now.lines.items in
+    let floors = c.args.said.now.floors in
+    let required = (method_of c.args.method.now).requires_ in
+    let over = c.in_ok-over.over in
+    let agrees = c.requires.agrees in
+    let body : c.args.is_said ≡ true = search rules in
+    let much : c.tells_as_much.result ≡ true = search rules in
+    let is = subst (λ s. IsSaidOver P (rel_of s) (floor (rel_of s) lines) m over.table over.whole over.most) agrees.same (c.in_ok-over.ensures lines agrees.says) in
+    said_asked P rel (cells_in m required (subsets_of (rel m))) lines
+    (said_of_bodies P rel m required lines (over_said P sets floors.sets.now floors.tables.items lines agrees m over.table over.whole over.most is (sym c.tells_as_much.ensures ∙ much)) (c.requires.body body))

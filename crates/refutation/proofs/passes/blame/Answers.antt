@@ -7,6 +7,7 @@ use Rattle.refutation.specs.Passes.{Passes}
 use Rattle.refutation.specs.Tables.{TablesSay}
 use Rattle.refutation.proofs.PassLaws.{broken_certificate}
 use Rattle.refutation.proofs.RowLemmas.{same_count}
+use Rattle.refutation.proofs.BodyLemmas.{none_body_settled}
 use Rattle.refutation.proofs.WaitLemmas.{none_settled}
 use Rattle.refutation.proofs.passes.blame.Goals as goal
 
@@ -24,7 +25,10 @@ passes-requires-clause-agrees c =
     }
 
 pub passes-requires-clause-settled : goal.passes-requires-clause-settled
-passes-requires-clause-settled c = none_settled (program_of c.args.program.now) (rel_of c.args.sets.now) c.new-lines.result.items c.in_ok-waits.waits c.in_ok-waits.ensures.wait
+passes-requires-clause-settled c = none_settled (program_of c.args.program.now) (rel_of c.args.sets.now) c.new-lines.result.items c.in_ok-methods.methods c.in_ok-methods.ensures.wait
+
+pub passes-requires-clause-bodies : goal.passes-requires-clause-bodies
+passes-requires-clause-bodies c = none_body_settled (program_of c.args.program.now) (rel_of c.args.sets.now) c.new-lines.result.items c.in_ok-bodies.bodies c.in_ok-bodies.ensures.wait
 
 pub returns-then-branch-clause-certificate : goal.returns-then-branch-clause-certificate
 returns-then-branch-clause-certificate c =

@@ -17,9 +17,11 @@ loop-place-init c =
     record {
       agrees = c.requires.agrees;
       size = refl;
+      body_size = refl;
       settled = c.requires.settled;
+      bodies = c.requires.bodies;
       within = within;
-      passed = skip_settled P (rel_of c.args.asking.now.judged.now.sets.now) c.args.said.now.lines.items c.args.waits.now 0 c.next-place.result c.requires.settled (omega arith) within next.asleep;
+      passed = skip_settled P (rel_of c.args.asking.now.judged.now.sets.now) c.args.said.now.lines.items c.args.waits.now.methods 0 c.next-place.result c.requires.settled (omega arith) within next.asleep;
     }
 
 pub ask_noting-requires-clause-is : goal.ask_noting-requires-clause-is
@@ -52,11 +54,13 @@ loop-place-preserved c =
     record {
       agrees = c.in_ok-ask_noting.ensures.agrees;
       size = size;
+      body_size = c.ask_noting.ensures.body_size ∙ before.body_size;
       settled = settled;
+      bodies = c.in_ok-ask_noting.ensures.bodies kept;
       within = within;
       passed = before.passed
           ∙ method_step P rel c.methods-methods.result.now place place c.index-methods-place.result c.loop-place.said.lines.items new c.in_ok-ask_noting.field-0
           c.methods-methods.ensures c.loop-place-test.true c.index-methods-place.is refl c.in_ok-ask_noting.ensures.asked
           ∙ ap (λ b. continued P rel (cells_from rel (place + 1) (drop (place + 1) P.methods)) new b) kept
-          ∙ skip_settled P rel new c.ask_noting.new.waits (place + 1) c.next-place-in-loop-place.result settled next.after within next.asleep;
+          ∙ skip_settled P rel new c.ask_noting.new.waits.methods (place + 1) c.next-place-in-loop-place.result settled next.after within next.asleep;
     }

@@ -3,7 +3,7 @@ use Rattle.core_program.specs.Views.{program_of}
 use Rattle.rules.specs.Near.{rel_of}
 use Rattle.refutation.specs.Passes.{cells_from, cells_of, pass}
 use Rattle.refutation.specs.Ends.{KeptAgrees}
-use Rattle.refutation.specs.Waiting.{AreSettled}
+use Rattle.refutation.specs.Waiting.{AreSettled, AreBodiesSettled}
 use Rattle.refutation.proofs.passes.pass.Given as goal
 
 -- the rest of the pass goes as the whole from the start
@@ -12,8 +12,10 @@ invariant-loop-place l =
     let P = program_of l.asking.judged.now.program.now in let rel = rel_of l.asking.judged.now.sets.now in
     record {
       agrees : KeptAgrees P l.asking.judged.now.sets.now l.said.floors.sets.now l.said.floors.tables.items l.said.lines.items;
-      size : length l.waits ≡ length l.fn.waits;
-      settled : AreSettled P rel l.said.lines.items l.waits;
+      size : length l.waits.methods ≡ length l.fn.waits.methods;
+      body_size : length l.waits.bodies ≡ length l.fn.waits.bodies;
+      settled : AreSettled P rel l.said.lines.items l.waits.methods;
+      bodies : AreBodiesSettled P rel l.said.lines.items l.waits.bodies;
       within : l.place ≤ length P.methods;
       passed : pass P rel (cells_of P rel) l.fn.said.lines.items ≡ pass P rel (cells_from rel l.place (drop l.place P.methods)) l.said.lines.items;
     }

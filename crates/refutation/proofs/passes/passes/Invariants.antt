@@ -3,7 +3,7 @@ use Rattle.core_program.specs.Views.{program_of}
 use Rattle.rules.specs.Near.{rel_of}
 use Rattle.refutation.specs.Passes.{cells_of}
 use Rattle.refutation.specs.Ends.{KeptAgrees, IsGoing}
-use Rattle.refutation.specs.Waiting.{AreSettled}
+use Rattle.refutation.specs.Waiting.{AreSettled, AreBodiesSettled}
 use Rattle.refutation.proofs.PassLaws.{room}
 use Rattle.refutation.proofs.passes.passes.Given as goal
 
@@ -13,8 +13,10 @@ invariant-rounds l =
     let P = program_of l.asking.judged.now.program.now in
     record {
       agrees : KeptAgrees P l.asking.judged.now.sets.now l.said.floors.sets.now l.said.floors.tables.items l.said.lines.items;
-      size : length l.waits ≡ length P.methods;
-      settled : AreSettled P (rel_of l.asking.judged.now.sets.now) l.said.lines.items l.waits;
+      size : length l.waits.methods ≡ length P.methods;
+      body_size : length l.waits.bodies ≡ length P.methods;
+      settled : AreSettled P (rel_of l.asking.judged.now.sets.now) l.said.lines.items l.waits.methods;
+      bodies : AreBodiesSettled P (rel_of l.asking.judged.now.sets.now) l.said.lines.items l.waits.bodies;
       going : IsGoing P (rel_of l.asking.judged.now.sets.now) l.said.lines.items;
     }
 
