@@ -33,3 +33,5 @@ pub mod Writing
 pub mod FinalParts
 -- What an effect asks of a program.
 mod SameFields
+-- A field made final, and marks.
+mod OneFinal

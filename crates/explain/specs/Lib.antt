@@ -26,6 +26,7 @@ pub mod Around
 pub mod Causes
 pub mod Finalising
 pub mod FinalFields
+pub mod OneFinal
 pub mod Fitting
 pub mod Grounds
 pub mod Programs

@@ -4,7 +4,6 @@ ghost use Rattle.std.specs.Prelude.{◌≡◌, option_map, IfOk};
 ghost use Rattle.core_program.specs.Views.{method_of, program_of};
 ghost use Rattle.rules.specs.Near.{rel_of};
 ghost use Rattle.std.specs.Option.{option_copied};
-ghost use Rattle.explain.specs.FinalFields.{final_field_fits};
 ghost use Rattle.explain.specs.Finalising.{final_variable_fits};
 ghost use Rattle.explain.specs.Fitting.{final_fits, first_lack, fitting, fitting_of, lack_in_cause, lack_in_help, lack_of_error, lack_of_step, lacking_final};
 ghost use Rattle.explain.specs.Views.{explained_data, visit_of, why_data};
@@ -12,7 +11,7 @@ ghost use Rattle.explain.specs.Views.{explained_data, visit_of, why_data};
 use crate::causes::{Cause, cause_of};
 use crate::deeds::{Help, help_of};
 use crate::explaining::Why;
-use crate::final_fields::{can_be_final, field_finalised};
+use crate::final_fields::FinalFields;
 use crate::finals::{assigns, final_stmt};
 use crate::found::Visited;
 use crate::names::{Alias, Lack};
@@ -22,8 +21,8 @@ use crate::wrapping::body_effect;
 use algebra::Basic;
 use core_program::CoreMethod;
 use effects::Assigned;
-use paths::FieldId;
-use std::alloc::AllocError as NoMemory;
+use rules::RelevantSets;
+use std::alloc::{AllocError as NoMemory, Global};
 
 /// The variable or the field that isn't final, where an expression has no path since it isn't.
 fn lacking_final(lack: Lack) -> Option<Lack>
@@ -125,46 +124,36 @@ fn final_variable_fits<A: Assigned>(
     Ok(own.below(limit))
 }
 
-/// Whether a field can be made final, and with it final the body of a method is at most this.
-fn final_field_fits<A: Assigned>(
-    walk: &Walk<'_, A>,
-    method: &CoreMethod,
-    limit: Basic,
-    field: FieldId,
-) -> Result<bool, NoMemory>
-    ensures { IfOk result (λ b. b ≡ final_field_fits (program_of walk.now.program.now) (rel_of walk.now.sets.now) (A.Assigned.assigned walk.now.assigned.now) (method_of method.now) limit field) }
-{
-    if !can_be_final(walk.program, field) {
-        return Ok(false);
-    }
-    let own = field_finalised(walk, method, field)?;
-    Ok(own.below(limit))
-}
-
-/// Whether it helps a method, which may be at most this, to make a variable or a field final.
+/// Whether it helps a method, which may be at most this, to make a variable or a field final, of the program of this walk.
 fn final_fits<A: Assigned>(
+    finals: &mut FinalFields<'_>,
     walk: &Walk<'_, A>,
     method: &CoreMethod,
     limit: Basic,
     lack: &Lack,
 ) -> Result<bool, NoMemory>
-    ensures { IfOk result (λ b. b ≡ final_fits (program_of walk.now.program.now) (rel_of walk.now.sets.now) (A.Assigned.assigned walk.now.assigned.now) (method_of method.now) limit lack.now) }
+    requires { walk.now.program.now ≡ finals.old }
+    ensures kept { finals.new ≡ finals.old }
+    ensures fits { IfOk result (λ b. b ≡ final_fits (program_of finals.old) (rel_of walk.now.sets.now) (A.Assigned.assigned walk.now.assigned.now) (method_of method.now) limit lack.now) }
 {
     match lack {
         Lack::Variable(slot) => final_variable_fits(walk, method, limit, *slot),
-        Lack::Field(field) => final_field_fits(walk, method, limit, *field),
+        Lack::Field(field) => finals.fits(walk, method, limit, *field),
         Lack::Long | Lack::Value => Ok(false),
     }
 }
 
 /// This variable or field, where there is one and it helps a method, which may be at most this, to make it final.
 fn fitting_of<A: Assigned>(
+    finals: &mut FinalFields<'_>,
     walk: &Walk<'_, A>,
     method: Option<&CoreMethod>,
     limit: Basic,
     lack: Option<Lack>,
 ) -> Result<Option<Lack>, NoMemory>
-    ensures { IfOk result (λ found. found ≡ fitting_of (program_of walk.now.program.now) (rel_of walk.now.sets.now) (A.Assigned.assigned walk.now.assigned.now) (option_map method_of (option_copied method.entry)) limit lack) }
+    requires { walk.now.program.now ≡ finals.old }
+    ensures kept { finals.new ≡ finals.old }
+    ensures fits { IfOk result (λ found. found ≡ fitting_of (program_of finals.old) (rel_of walk.now.sets.now) (A.Assigned.assigned walk.now.assigned.now) (option_map method_of (option_copied method.entry)) limit lack) }
 {
     let Some(method) = method else {
         return Ok(None);
@@ -172,20 +161,32 @@ fn fitting_of<A: Assigned>(
     let Some(lack) = lack else {
         return Ok(None);
     };
-    if final_fits(walk, method, limit, &lack)? {
+    if final_fits(finals, walk, method, limit, &lack)? {
         return Ok(Some(lack));
     }
     Ok(None)
 }
 
-/// The first variable or field by which an explained method lacks the name of a lock, where it helps to make that final.
+/// The first variable or field by which an explained method lacks the name of a lock, where it helps to make that final, in the program of
+/// these fields, by these relevant paths and this assignment.
 pub fn fitting<A: Assigned>(
-    walk: &Walk<'_, A>,
+    alloc: Global,
+    finals: &mut FinalFields<'_>,
+    sets: &RelevantSets,
+    assigned: &A,
     aliases: &[Alias],
     x: &Explained<'_>,
 ) -> Result<Option<Lack>, NoMemory>
-    ensures { IfOk result (λ lack. lack ≡ fitting (program_of walk.now.program.now) (rel_of walk.now.sets.now) (A.Assigned.assigned walk.now.assigned.now) aliases.now (explained_data x.now)) }
+    ensures kept { finals.new ≡ finals.old }
+    ensures fits { IfOk result (λ lack. lack ≡ fitting (program_of finals.old) (rel_of sets.now) (A.Assigned.assigned assigned.now) aliases.now (explained_data x.now)) }
 {
-    let lack = first_lack(walk, aliases, &x.why)?;
-    fitting_of(walk, method_at(walk.program, x.method), x.limit, lack)
+    let walk = Walk {
+        alloc,
+        program: finals.program(),
+        sets,
+        assigned,
+    };
+    let lack = first_lack(&walk, aliases, &x.why)?;
+    let method = method_at(walk.program, x.method);
+    fitting_of(finals, &walk, method, x.limit, lack)
 }

@@ -32,6 +32,7 @@ pub use causes::{Cause, cause_of};
 pub use circles::find_grounds;
 pub use deeds::{Deed, Help, deed_of, help_of};
 pub use explaining::{Why, basics};
+pub use final_fields::FinalFields;
 pub use found::{CorePart, Visited};
 pub use grounds::Ground;
 pub use laws_of_explanations::{

@@ -16,9 +16,9 @@ use Rattle.explain_text.specs.Pages.{PageData}
 use Rattle.paths.specs.Paths.{PathData}
 use Rattle.rules.specs.Effect.{Assignment}
 use Rattle.explain_text.specs.declared.arranging.Arranged.{Arranged}
-use Rattle.explain_text.specs.Arrangements.{ArrangedData, IsArrangedBlock}
+use Rattle.explain_text.specs.Arrangements.{ArrangedData}
 use Rattle.explain_text.specs.ArrangementViews.{arranged_data}
-use Rattle.explain_commands.specs.Explained.{AreTexts, AreAmongMethods, aliases_at, more, none, told_of, page_of, slots_at, places_at}
+use Rattle.explain_commands.specs.Explained.{AreTexts, AreAmongMethods, IsMethodText, more, none, told_of, page_of, slots_at, places_at}
 use Rattle.explain_commands.specs.Listed.{all_lines, lines_from}
 
 -- ---- the listing
@@ -60,7 +60,7 @@ module _ (P : Program) (rel : ℕ → List PathData) (A : Assignment) (pages : �
   none_so_far all text is rest texts = subst (λ t. AreTexts P rel A pages overs (map arranged_data all) (t ++ rest)) (sym is) texts
 
   pub more_so_far : (all : List Arranged) (i : ℕ) (x : Arranged) (old new lines : List ℕ) → i < length all → x ≡ get_or all i x
-      → new ≡ old ++ lines → IsArrangedBlock P rel A (pages (arranged_data x).told.method) overs (aliases_at P (slice_get P.methods (arranged_data x).told.method)) (arranged_data x) lines
+      → new ≡ old ++ lines → IsMethodText P rel A pages overs (arranged_data x) lines
       → AreSoFar all i old → AreSoFar all (i + 1) new
   more_so_far all i x old new lines below is added text so_far rest texts =
       let here = subst (λ ys. AreTexts P rel A pages overs (map arranged_data ys) (lines ++ rest)) (sym (next_drop all i x below is))

@@ -3,10 +3,11 @@ use Rattle.std.specs.Prelude.{ℕ, ◌<◌, List, [], ◌∷◌, ◌++◌, map, 
 use Rattle.classes.specs.Table.{TableData}
 use Rattle.core_program.specs.Core.{Program, Method}
 use Rattle.explain.specs.declared.names.Alias.{Alias}
+use Rattle.explain.specs.Fitting.{fitting}
 use Rattle.explain.specs.Names.{aliases_after}
 use Rattle.explain.specs.Whys.{ExplainedData}
 use Rattle.explain_text.specs.Arrangements.{ArrangedData, IsArrangedBlock}
-use Rattle.explain_text.specs.Pages.{PageData}
+use Rattle.explain_text.specs.Pages.{PageData, advised}
 use Rattle.paths.specs.Paths.{PathData}
 use Rattle.places.specs.Slots.{member_slots}
 use Rattle.places.specs.Sources.{member_places}
@@ -51,9 +52,12 @@ aliases_at P None = []
 aliases_at P (Some method) = aliases_after P [] method.body
 
 module _ (P : Program) (rel : ℕ → List PathData) (A : Assignment) (pages : ℕ → PageData) (overs : ℕ → List ℕ) where
-  -- the lines of one method
+  -- the lines of one method. Of the variable or the field by which it lacks the name of a lock, if there is one that helps where it is made
+  -- final, it is said that it isn't.
   abbrev pub IsMethodText : ArrangedData → List ℕ → Type 0
-  IsMethodText a text = IsArrangedBlock P rel A (pages a.told.method) overs (aliases_at P (slice_get P.methods a.told.method)) a text
+  IsMethodText a text =
+      let aliases = aliases_at P (slice_get P.methods a.told.method) in
+      IsArrangedBlock P rel A (advised (pages a.told.method) (fitting P rel A aliases a.told)) overs aliases a text
 
   -- the lines of one method after the other
   pub data AreTexts : List ArrangedData → List ℕ → Type 0 where

@@ -4,10 +4,9 @@ ghost use Rattle.std.specs.Prelude.{◌≡◌, ◌++◌, ◌<◌, ◌≤◌, ◌
 ghost use Rattle.classes.specs.Views.{table_data};
 ghost use Rattle.core_program.specs.Views.{program_of};
 ghost use Rattle.explain_commands.specs.Answers.{Explains, ExplainsAndWarns};
-ghost use Rattle.explain_text.specs.Arrangements.{IsArrangedBlock};
 ghost use Rattle.explain_text.specs.ArrangementViews.{arranged_data};
 ghost use Rattle.explain_commands.specs.Orders.{AreExplained, bounds_for, explanations_for};
-ghost use Rattle.explain_commands.specs.Explained.{AreTexts, AreAmongMethods, aliases_at, page_of, told_of};
+ghost use Rattle.explain_commands.specs.Explained.{AreTexts, AreAmongMethods, IsMethodText, aliases_at, page_of, told_of};
 ghost use Rattle.explain.specs.Views.{explained_data};
 ghost use Rattle.rules.specs.Near.{rel_of};
 ghost use Rattle.rules.specs.Search.{row_at};
@@ -19,8 +18,8 @@ use crate::words::Order;
 use core_program::CoreProgram;
 use effects::Assigned;
 use explain::{
-    Alias, Bounds, Explained, Ground, Walk, aliases, explanations, find_grounds,
-    strict_explanations,
+    Alias, Bounds, Explained, FinalFields, Ground, Walk, aliases, explanations, find_grounds,
+    fitting, strict_explanations,
 };
 use explain_text::{Arranged, Page, arrange, write_arranged};
 use paths::MethodId;
@@ -46,28 +45,39 @@ fn aliases_of(
 fn add_block<A: Assigned>(
     told: &Told<'_, '_, '_>,
     walk: &Walk<'_, A>,
+    finals: &mut FinalFields<'_>,
     over: &OverridingMethods,
     x: &Arranged<'_>,
     text: &mut String,
 ) -> Result<(), NoMemory>
-    requires { x.now.told.method < length told.now.methods.now.items }
-    ensures { OnOk result ((lines : List ℕ) × (string_bytes text.new ≡ string_bytes text.old ++ lines)
-        × IsArrangedBlock (program_of walk.now.program.now) (rel_of walk.now.sets.now) (A.Assigned.assigned walk.now.assigned.now)
-        (page_of told.now.file.now told.now.index.now (table_data told.now.source.now.table) (map (λ m. member_of m.now) told.now.methods.now.items) x.now.told.method)
-        (row_at over.now) (aliases_at (program_of walk.now.program.now) (slice_get (program_of walk.now.program.now).methods x.now.told.method)) (arranged_data x.now) lines) }
+    requires there { x.now.told.method < length told.now.methods.now.items }
+    requires finals { finals.old ≡ walk.now.program.now }
+    ensures kept { finals.new ≡ finals.old }
+    ensures lines { OnOk result ((lines : List ℕ) × (string_bytes text.new ≡ string_bytes text.old ++ lines)
+        × IsMethodText (program_of walk.now.program.now) (rel_of walk.now.sets.now) (A.Assigned.assigned walk.now.assigned.now)
+        (page_of told.now.file.now told.now.index.now (table_data told.now.source.now.table) (map (λ m. member_of m.now) told.now.methods.now.items))
+        (row_at over.now) (arranged_data x.now) lines) }
 {
     let found = &x.told;
     let member = told.methods[found.method.0 as usize];
+    let known = aliases_of(walk.alloc, walk.program, found.method)?;
+    let lack = fitting(
+        walk.alloc,
+        finals,
+        walk.sets,
+        walk.assigned,
+        known.as_slice(),
+        &x.told,
+    )?;
     let offsets = method_places(walk.alloc, member)?;
     let slots = slot_names(walk.alloc, member)?;
-    let known = aliases_of(walk.alloc, walk.program, found.method)?;
     let page = Page {
         file: told.file,
         index: told.index,
         table: &told.source.table,
         slots: &slots,
         offsets: offsets.as_slice(),
-        fitting: None,
+        fitting: lack,
     };
     write_arranged(text, &page, walk, over, known.as_slice(), x)
 }
@@ -85,8 +95,9 @@ fn lines_of<A: Assigned>(
         (row_at over.now) (map arranged_data all.now) (string_bytes text)) }
 {
     let mut text = String::new(walk.alloc);
+    let mut finals = FinalFields::of(walk.alloc, walk.program)?;
     for x in all {
-        add_block(told, walk, over, x, &mut text)?;
+        add_block(told, walk, &mut finals, over, x, &mut text)?;
     }
     Ok(text)
 }

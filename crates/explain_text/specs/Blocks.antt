@@ -10,14 +10,13 @@ use Rattle.explain.specs.declared.deeds.Help.{Help}
 use Rattle.explain.specs.Around.{around}
 use Rattle.explain.specs.Causes.{ArePaths, cause_of}
 use Rattle.explain.specs.Deeds.{deed_of_part, help_of}
-use Rattle.explain.specs.Fitting.{fitting}
 use Rattle.explain.specs.Whys.{WhyData, Wrong, Looped, Compound, Two, Overridden, Nothing, ExplainedData}
 use Rattle.paths.specs.Paths.{PathData}
 use Rattle.report.specs.Verdicts.{title_text}
 use Rattle.rules.specs.Effect.{Assignment}
 use Rattle.rules.specs.Rules.{declared_bound}
 use Rattle.explain.specs.Visits.{Visit}
-use Rattle.explain_text.specs.Pages.{PageData, advised, node_offset, words_before_kind, note_line}
+use Rattle.explain_text.specs.Pages.{PageData, node_offset, words_before_kind, note_line}
 use Rattle.explain_text.specs.declared.codes.StepKind.{StepKind}
 use Rattle.explain_text.specs.declared.codes.StepKind.TheVariants as kind
 use Rattle.explain_text.specs.Codes.{cause_code, ending, help_code, spoken_kind, step_code, step_lead, why_code}
@@ -156,9 +155,9 @@ abbrev pub IsWhyText : Program → (ℕ → List PathData) → Assignment → Pa
 IsWhyText P rel A page overs aliases m limit (Wrong v) text = IsErrorLine P rel page aliases v text
 IsWhyText P rel A page overs aliases m limit why text = text ≡ steps_lines P rel A page overs aliases m limit why
 
--- the lines of a method: what it is, and why. Of the variable or the field by which it lacks the name of a lock, if there is one that helps
--- where it is made final, it is said that it isn't.
+-- the lines of a method: what it is, and why. Of the variable or the field of the page that helps it where it is made final, if there is one,
+-- it is said that it isn't.
 pub record IsBlock (P : Program) (rel : ℕ → List PathData) (A : Assignment) (page : PageData) (overs : ℕ → List ℕ) (aliases : List Alias) (x : ExplainedData) (text : List ℕ) : Type 0 where
   pub more : List ℕ
   pub text_is : text ≡ head_line P page x ++ more
-  pub why : IsWhyText P rel A (advised page (fitting P rel A aliases x)) overs aliases x.method x.limit x.why more
+  pub why : IsWhyText P rel A page overs aliases x.method x.limit x.why more

@@ -12,12 +12,12 @@ ghost use Rattle.explain_text.specs.Views.{page_data};
 
 use crate::causes::write_cause;
 use crate::codes::{cause_ending, why_ending};
-use crate::page::{Page, advised, begin_line, begin_note};
+use crate::page::{Page, begin_line, begin_note};
 use crate::steps::{Asked, write_compound, write_looped, write_two};
 use algebra::Basic;
 use core_program::CoreProgram;
 use effects::Assigned;
-use explain::{Alias, Cause, Explained, Visited, Walk, Why, around, ascending, cause_of, fitting};
+use explain::{Alias, Cause, Explained, Visited, Walk, Why, around, ascending, cause_of};
 use paths::{MethodId, Path};
 use report::write_title;
 use rules::{OverridingMethods, bound_of};
@@ -233,7 +233,6 @@ pub(crate) fn write_block<A: Assigned>(
         × IsBlock (program_of walk.now.program.now) (rel_of walk.now.sets.now) (A.Assigned.assigned walk.now.assigned.now) (page_data page.now) (row_at over.now) aliases.now (explained_data x.now) text) }
 {
     write_head(out, page, walk.program, x)?;
-    let page = advised(page, fitting(walk, aliases, x)?);
     let asked = Asked {
         walk,
         over,
@@ -242,5 +241,5 @@ pub(crate) fn write_block<A: Assigned>(
         limit: x.limit,
         around: around(walk, x.method, x.limit)?,
     };
-    write_why(out, &page, &asked, &x.why)
+    write_why(out, page, &asked, &x.why)
 }

@@ -1,7 +1,7 @@
 //! What the lines of a method are written with, and how a line begins and ends.
 
 ghost use Rattle.std.specs.Prelude.{◌≡◌, ◌++◌, codes, string_bytes, IfOk, OnOk};
-ghost use Rattle.explain_text.specs.Pages.{advised, words_before_kind, note_front, node_offset, place_start};
+ghost use Rattle.explain_text.specs.Pages.{words_before_kind, note_front, node_offset, place_start};
 ghost use Rattle.explain_text.specs.Blocks.{kind_word};
 ghost use Rattle.explain_text.specs.Views.{page_data};
 
@@ -21,20 +21,6 @@ pub struct Page<'t, 'a> {
     pub slots: &'t SlotNames<'a>,
     pub offsets: &'t [u32],
     pub fitting: Option<Lack>,
-}
-
-/// The same, with this variable or field for the method that is told.
-pub(crate) fn advised<'t, 'a>(page: &Page<'t, 'a>, fitting: Option<Lack>) -> Page<'t, 'a>
-    ensures { page_data result ≡ advised (page_data page.now) fitting }
-{
-    Page {
-        file: page.file,
-        index: page.index,
-        table: page.table,
-        slots: page.slots,
-        offsets: page.offsets,
-        fitting,
-    }
 }
 
 /// The offset of a node; 0 where the method has no such node.

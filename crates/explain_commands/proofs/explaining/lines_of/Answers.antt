@@ -1,5 +1,5 @@
 -- The lines of one method more.
-use Rattle.std.proofs.Common.{length, map, string_bytes}
+use Rattle.std.proofs.Common.{length, map, string_bytes, ◌∙◌}
 use Rattle.classes.specs.Views.{table_data}
 use Rattle.core_program.specs.Views.{program_of}
 use Rattle.explain_commands.specs.Explained.{page_of}
@@ -13,21 +13,30 @@ pub loop-x-init : goal.loop-x-init
 loop-x-init g c =
     let told = c.args.told.now in
     let walk = c.args.walk.now in
-    none_so_far (program_of walk.program.now) (rel_of walk.sets.now) (g.A.Assigned.assigned walk.assigned.now)
-    (page_of told.file.now told.index.now (table_data told.source.now.table) (map (λ m. member_of m.now) told.methods.now.items)) (row_at c.args.over.now)
-    c.args.all.now (string_bytes c.new-text.result) c.new-text.ensures.bytes
+    record {
+      texts = none_so_far (program_of walk.program.now) (rel_of walk.sets.now) (g.A.Assigned.assigned walk.assigned.now)
+          (page_of told.file.now told.index.now (table_data told.source.now.table) (map (λ m. member_of m.now) told.methods.now.items)) (row_at c.args.over.now)
+          c.args.all.now (string_bytes c.new-text.result) c.new-text.ensures.bytes;
+      finals = c.in_ok-finals.ensures;
+    }
 
 pub add_block-requires : goal.add_block-requires
-add_block-requires g c = within_at (length c.args.told.now.methods.now.items) c.args.all.now c.loop-x.x-index c.x-item.result c.loop-x-test.true c.x-item.is c.requires
+add_block-requires g c = record {
+  there = within_at (length c.args.told.now.methods.now.items) c.args.all.now c.loop-x.x-index c.x-item.result c.loop-x-test.true c.x-item.is c.requires;
+  finals = c.loop-x.invariant.finals;
+}
 
 pub loop-x-preserved : goal.loop-x-preserved
 loop-x-preserved g c =
     let told = c.args.told.now in
     let walk = c.args.walk.now in
-    let added = c.in_ok-add_block.ensures in
-    more_so_far (program_of walk.program.now) (rel_of walk.sets.now) (g.A.Assigned.assigned walk.assigned.now)
-    (page_of told.file.now told.index.now (table_data told.source.now.table) (map (λ m. member_of m.now) told.methods.now.items)) (row_at c.args.over.now)
-    c.args.all.now c.loop-x.x-index c.x-item.result (string_bytes c.loop-x.text) (string_bytes c.add_block.new.text) added.0 c.loop-x-test.true c.x-item.is added.1 added.2 c.loop-x.invariant
+    let added = c.in_ok-add_block.ensures.lines in
+    record {
+      texts = more_so_far (program_of walk.program.now) (rel_of walk.sets.now) (g.A.Assigned.assigned walk.assigned.now)
+          (page_of told.file.now told.index.now (table_data told.source.now.table) (map (λ m. member_of m.now) told.methods.now.items)) (row_at c.args.over.now)
+          c.args.all.now c.loop-x.x-index c.x-item.result (string_bytes c.loop-x.text) (string_bytes c.add_block.new.text) added.0 c.loop-x-test.true c.x-item.is added.1 added.2 c.loop-x.invariant.texts;
+      finals = c.add_block.ensures.kept ∙ c.loop-x.invariant.finals;
+    }
 
 pub returns : goal.returns
 returns g c =
@@ -35,4 +44,4 @@ returns g c =
     let walk = c.args.walk.now in
     all_so_far (program_of walk.program.now) (rel_of walk.sets.now) (g.A.Assigned.assigned walk.assigned.now)
     (page_of told.file.now told.index.now (table_data told.source.now.table) (map (λ m. member_of m.now) told.methods.now.items)) (row_at c.args.over.now)
-    c.args.all.now c.loop-x.x-index (string_bytes c.loop-x.text) c.loop-x-test.false c.loop-x.invariant
+    c.args.all.now c.loop-x.x-index (string_bytes c.loop-x.text) c.loop-x-test.false c.loop-x.invariant.texts
