@@ -18,6 +18,7 @@ import com.sun.source.tree.MethodInvocationTree;
 import com.sun.source.tree.MethodTree;
 import com.sun.source.tree.NewArrayTree;
 import com.sun.source.tree.NewClassTree;
+import com.sun.source.tree.PatternTree;
 import com.sun.source.tree.Tree;
 import com.sun.source.tree.TypeCastTree;
 import com.sun.source.tree.UnaryTree;
@@ -103,6 +104,8 @@ public final class Attribution {
                 TreePath path = new TreePath(getCurrentPath(), tree);
                 meaning = NAMELESS.contains(tree.getKind().asInterface()) ? null : trees.getElement(path);
                 kind = trees.getTypeMirror(path);
+            } else if (tree instanceof PatternTree) {
+                kind = trees.getTypeMirror(new TreePath(getCurrentPath(), tree));
             }
             all.put(tree, new Known(parent, source, meaning, kind));
         }
@@ -147,7 +150,7 @@ public final class Attribution {
         return known(tree).meaning();
     }
 
-    /** The type of an expression, or null. */
+    /** The type of an expression or a pattern, or null. */
     public TypeMirror type(Tree tree) {
         return known(tree).kind();
     }

@@ -10,15 +10,15 @@ import com.sun.source.util.TreeScanner;
 import com.sun.source.util.Trees;
 import java.io.File;
 import java.io.IOException;
+import java.io.StringWriter;
 import java.nio.charset.StandardCharsets;
-import java.nio.file.Files;
 import java.nio.file.Path;
 import java.util.ArrayList;
 import java.util.HashMap;
 import java.util.LinkedHashMap;
 import java.util.List;
 import java.util.Map;
-import java.util.stream.Stream;
+import java.util.regex.Pattern;
 import javax.tools.Diagnostic;
 import javax.tools.DiagnosticCollector;
 import javax.tools.JavaCompiler;
@@ -28,6 +28,8 @@ import javax.tools.ToolProvider;
 
 /** Runs javac over the sources up to the point where each name and type is known. */
 public final class Javac {
+    private static final Pattern FAULT = Pattern.compile("[\\w.$]+(Error|Exception|Failure)\\b");
+
     private final Options options;
 
     public Javac(Options options) {
@@ -42,24 +44,38 @@ public final class Javac {
         }
         DiagnosticCollector<JavaFileObject> told = new DiagnosticCollector<>();
         StandardJavaFileManager manager = compiler.getStandardFileManager(told, null, StandardCharsets.UTF_8);
-        Map<String, String> names = names();
-        List<Path> paths = names.keySet().stream().map(Path::of).toList();
-        JavacTask task = (JavacTask) compiler.getTask(null, manager, told, words(), null,
-            manager.getJavaFileObjectsFromPaths(paths));
+        Map<Path, String> names = new SourceFiles(options.files()).names();
+        StringWriter ownFaults = new StringWriter();
+        JavacTask task = (JavacTask) compiler.getTask(ownFaults, manager, told, words(), null,
+            manager.getJavaFileObjectsFromPaths(names.keySet()));
         Map<CompilationUnitTree, SourceText> sources = new LinkedHashMap<>();
         try {
             for (CompilationUnitTree unit : task.parse()) {
-                String name = unit.getSourceFile().getName();
-                sources.put(unit, new SourceText(names.getOrDefault(name, name),
+                sources.put(unit, new SourceText(names.get(manager.asPath(unit.getSourceFile())),
                     unit.getSourceFile().getCharContent(true).toString()));
             }
             task.analyze();
         } catch (IOException | RuntimeException fault) {
             refuseErrors(told, task, sources);
-            throw new Refusal(Options.NOT_JAVA, "javac can't read these sources: " + fault);
+            throw refusal(fault.toString());
         }
         refuseErrors(told, task, sources);
+        if (!ownFaults.toString().isBlank()) {
+            throw refusal(ownFaults.toString());
+        }
         return new Attribution(task, sources);
+    }
+
+    /**
+     * Where javac itself fails, as for sources that are nested too deeply, it throws what happened, or writes it and gives
+     * no trees, or ones without types.
+     */
+    private static Refusal refusal(String happened) {
+        if (happened.contains("OutOfMemoryError") || happened.contains("StackOverflowError")) {
+            return new Refusal(Options.NO_MEMORY, "the sources are too large: memory ran out");
+        }
+        return new Refusal(Options.NOT_JAVA, "javac can't read these sources: " + happened.lines()
+            .filter(line -> FAULT.matcher(line).lookingAt()).findFirst().orElse(happened.strip()));
     }
 
     private List<String> words() {
@@ -75,43 +91,6 @@ public final class Javac {
     /** The program's own classes, which hold the annotations. */
     private static String ownArchive() {
         return System.getProperty("atomic.annotations", System.getProperty("java.class.path"));
-    }
-
-    /** The files to read, each with its name as the user wrote it; of a folder all its sources. */
-    private Map<String, String> names() {
-        Map<String, String> names = new LinkedHashMap<>();
-        for (String word : options.files()) {
-            Path path = path(word);
-            if (Files.isDirectory(path)) {
-                sources(path).forEach(file -> names.put(file.toString(), file.toString()));
-            } else if (Files.isReadable(path)) {
-                names.put(path.toString(), word);
-            } else {
-                throw new Refusal(Options.CANNOT_READ, "cannot read " + word);
-            }
-        }
-        if (names.isEmpty()) {
-            throw new Refusal(Options.CANNOT_READ, "no Java source in " + String.join(" ", options.files()));
-        }
-        return names;
-    }
-
-    private static Path path(String word) {
-        try {
-            return Path.of(word);
-        } catch (java.nio.file.InvalidPathException fault) {
-            throw new Refusal(Options.CANNOT_READ, "cannot read " + word);
-        }
-    }
-
-    private static List<Path> sources(Path folder) {
-        try (Stream<Path> files = Files.walk(folder)) {
-            return files.filter(file -> file.toString().endsWith(".java") && Files.isRegularFile(file))
-                .filter(file -> !file.endsWith("module-info.java") && !file.endsWith("package-info.java"))
-                .sorted().toList();
-        } catch (IOException | java.io.UncheckedIOException fault) {
-            throw new Refusal(Options.CANNOT_READ, "cannot read " + folder);
-        }
     }
 
     private void refuseErrors(DiagnosticCollector<JavaFileObject> told, JavacTask task,

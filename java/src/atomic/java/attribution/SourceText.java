@@ -5,6 +5,8 @@ import java.util.Arrays;
 
 /** The text of one Java source, as the command line names it. */
 public final class SourceText {
+    private static final String ATOMIC = "atomic";
+
     private final String file;
     private final String text;
     private final int[] starts;
@@ -65,7 +67,7 @@ public final class SourceText {
     /** Where the word stands first as a token behind {@code from}, outside comments and texts; else {@code from}. */
     public int find(String word, long from) {
         int at = (int) Math.max(0, from);
-        while (at < text.length()) {
+        while (at < text.length() && !word.isEmpty()) {
             if (text.startsWith("//", at) || text.startsWith("/*", at)) {
                 at = behindComment(at);
             } else if (text.charAt(at) == '"' || text.charAt(at) == '\'') {
@@ -111,7 +113,7 @@ public final class SourceText {
         while (at < to && at < text.length()) {
             if (text.startsWith("//", at) || text.startsWith("/*", at)) {
                 int end = behindComment(at);
-                if (text.substring(at, end).replaceAll("[/*\\s]", "").equals("atomic")) {
+                if (isAtomic(at, end)) {
                     return true;
                 }
                 at = end;
@@ -120,6 +122,19 @@ public final class SourceText {
             }
         }
         return false;
+    }
+
+    /** Whether a comment says {@code atomic}, and nothing else: at its first other letter it doesn't. */
+    private boolean isAtomic(int from, int to) {
+        int said = 0;
+        for (int k = from; k < to; k++) {
+            char letter = text.charAt(k);
+            boolean blank = letter == '/' || letter == '*' || Character.isWhitespace(letter);
+            if (!blank && (said == ATOMIC.length() || letter != ATOMIC.charAt(said++))) {
+                return false;
+            }
+        }
+        return said == ATOMIC.length();
     }
 
     /** The beginning of the comments and blanks that stand right before an offset. */

@@ -1,0 +1,102 @@
+"""What atomic-java answers where it is given no good source, or can't write what it has to: one status, and one clear
+line wherever it isn't the sources that are judged."""
+import os
+import re
+import subprocess
+from dataclasses import dataclass
+from pathlib import Path
+
+GOOD = "class A { @GuardedBy(\"this\") int v; /* atomic */ synchronized void f() { v++; v++; } }\n"
+TOO_LARGE = "the sources are too large: memory ran out"
+FAULT = re.compile(r"^\s+at |Exception in thread", re.MULTILINE)
+DEEP = 2_000_000
+NO_CHECKER = "/bin/false"
+
+
+@dataclass(frozen=True)
+class Input:
+    """Words of a command line, and what comes of them: a status, and what the first line is, if that is told."""
+
+    name: str
+    words: tuple[str, ...]
+    status: int
+    first: str = ""
+    to: str = ""
+    checker: str = ""
+
+
+INPUTS = (
+    Input("an empty file", ("empty.java",), 0),
+    Input("a text that isn't Java", ("text.java",), 1, r"text\.java:1:1: error: .*"),
+    Input("bytes that are no text", ("bytes.java",), 1, r"bytes\.java:1:1: error: unmappable character .*"),
+    Input("a source in UTF-16", ("wide.java",), 1, r"wide\.java:1:1: error: .*"),
+    Input("a source with a byte of zeros", ("zero.java",), 1, r"zero\.java:1:11: error: illegal character: .*"),
+    Input("a class twice", ("twice.java",), 1, r"twice\.java:2:1: error: duplicate class: A"),
+    Input("lines that end as on Windows", ("windows.java",), 0),
+    Input("a file by two names, and its folder", ("good.java", "./good.java", "link.java", "round"), 0),
+    Input("a folder with a link to itself", ("round",), 0),
+    Input("a link to a folder", ("there",), 0),
+    Input("a name with a line's end", ("--strict", "two\nlines.java"), 0),
+    Input("a class path that isn't there", ("--classpath", "nowhere.jar", "good.java"), 0),
+    Input("a file that isn't there", ("nowhere.java",), 6, r"cannot read nowhere\.java"),
+    Input("no name at all", ("",), 6, "cannot read "),
+    Input("a folder with no source but the module's", ("module",), 6, "no Java source in module"),
+    Input("an expression that is nested too deeply", ("deep.java",), 8, TOO_LARGE),
+    Input("a skeleton that can't be written", ("--emit", "/dev/full", "good.java"), 7, "cannot write /dev/full"),
+    Input("an answer that can't be written", ("--public", "open.java"), 7, to="/dev/full"),
+    Input("a checker that gives no answer", ("good.java",), 12, ".* gives no answer, but status 1", checker=NO_CHECKER),
+)
+
+
+def write(folder: Path) -> None:
+    """The files that the inputs name."""
+    texts = {
+        "empty.java": b"",
+        "text.java": b"This isn't Java.\n",
+        "bytes.java": bytes(range(255, 127, -1)),
+        "wide.java": GOOD.encode("utf-16"),
+        "zero.java": GOOD.replace("{ @", "{ \0@", 1).encode(),
+        "twice.java": (GOOD + GOOD).encode(),
+        "windows.java": GOOD.replace("; ", ";\r\n").encode(),
+        "good.java": GOOD.encode(),
+        "two\nlines.java": GOOD.encode(),
+        "open.java": b"class A { int v; public void f() { v++; } }\n",
+        "module/module-info.java": b"module m { }\n",
+        "round/B.java": GOOD.replace("class A", "class B").encode(),
+        "deep.java": b"class A { int f() { return " + b"(" * DEEP + b"1" + b")" * DEEP + b"; } }\n",
+    }
+    for name, text in texts.items():
+        path = folder / name
+        path.parent.mkdir(exist_ok=True)
+        path.write_bytes(text)
+    for link, target in (("link.java", "good.java"), ("round/again", "."), ("there", "round")):
+        os.symlink(target, folder / link)
+
+
+def wrong(given: Input, folder: Path, program: Path) -> str:
+    """What is wrong with the answer to an input; nothing where it is right."""
+    environment = dict(os.environ, **({"ATOMIC_WHY": given.checker} if given.checker else {}))
+    with open(folder / given.to if given.to else os.devnull, "wb") as to:
+        done = subprocess.run(
+            [str(program), *given.words], cwd=folder, env=environment, check=False, stderr=subprocess.PIPE,
+            stdout=to if given.to else subprocess.PIPE,
+        )  # fmt: skip
+    told, beside = (done.stdout or b"").decode(errors="replace"), done.stderr.decode(errors="replace")
+    if done.returncode != given.status:
+        return f"status {done.returncode}, wanted {given.status}: {(told + beside)[-300:]}"
+    elif FAULT.search(told + beside):
+        return f"a trace: {(told + beside)[:300]}"
+    lines = told.splitlines()
+    if given.first and (not lines or not re.fullmatch(given.first, lines[0])):
+        return f"the first line is {lines[:1]}, wanted {given.first}"
+    if given.status > 2 and len(lines) + len(beside.splitlines()) > (2 if given.to else 1):
+        return f"more than one line: {(told + beside)[:300]}"
+    return ""
+
+
+def all_wrong(folder: Path, program: Path) -> list[str]:
+    """What is wrong with each of the answers that aren't right."""
+    folder.mkdir(exist_ok=True)
+    write(folder)
+    told = {given.name: wrong(given, folder, program) for given in INPUTS}
+    return [f"{name}: {text}" for name, text in told.items() if text]
