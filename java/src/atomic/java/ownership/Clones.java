@@ -12,7 +12,10 @@ import com.sun.source.tree.MethodInvocationTree;
 import com.sun.source.tree.Tree;
 import com.sun.source.tree.TypeCastTree;
 import com.sun.source.tree.VariableTree;
+import java.util.ArrayList;
+import java.util.HashMap;
 import java.util.List;
+import java.util.Map;
 import javax.lang.model.element.Element;
 import javax.lang.model.element.ElementKind;
 import javax.lang.model.element.Modifier;
@@ -88,16 +91,32 @@ final class Clones {
         return each instanceof TypeCastTree cast ? bare(cast.getExpression()) : each;
     }
 
-    /** Whether two objects may share what a field holds, since one is a copy of the other, field by field. */
-    static boolean share(VariableElement field, Program program, Uses uses, Sites sites) {
+    /** The calls that make such copies, by the class that they stand in. */
+    static Map<JavaClass, List<MethodInvocationTree>> byClass(Program program, Uses uses) {
+        Map<JavaClass, List<MethodInvocationTree>> all = new HashMap<>();
+        uses.clones().stream().filter(call -> isOwn(call, program)
+            && program.method(program.attribution().element(call)) == null).forEach(call ->
+                all.computeIfAbsent(around(call, program), key -> new ArrayList<>()).add(call));
+        return all;
+    }
+
+    private static JavaClass around(Tree tree, Program program) {
+        Tree at = tree;
+        while (at != null && !(at instanceof ClassTree)) {
+            at = program.attribution().parent(at);
+        }
+        return at == null ? null : program.find(program.attribution().element(at));
+    }
+
+    /** Whether two objects may share what a field holds, since one of these calls makes one a copy of the other. */
+    static boolean share(VariableElement field, List<MethodInvocationTree> copying, Program program, Uses uses, Sites sites) {
         JavaClass home = program.find(field.getEnclosingElement());
-        boolean plain = home == null || home.symbol().getSuperclass().toString().equals("java.lang.Object");
+        boolean plain = home.symbol().getSuperclass().toString().equals("java.lang.Object");
         boolean open = !plain && program.attribution().elements().getAllMembers(home.symbol()).stream().anyMatch(each ->
             each.getSimpleName().contentEquals("clone") && each.getModifiers().contains(Modifier.PUBLIC)
             && program.find(each.getEnclosingElement()) == null);
-        return open || uses.clones().stream().filter(call -> isOwn(call, program) && isKin(call, home, program)
-            && program.method(program.attribution().element(call)) == null).anyMatch(call ->
-                copies(call, program, sites).stream().anyMatch(each -> !givesOwn(each, field, program, uses)));
+        return open || copying.stream().anyMatch(call ->
+            copies(call, program, sites).stream().anyMatch(each -> !givesOwn(each, field, program, uses)));
     }
 
     /** The calls that give a copy to somebody: the call itself, or those of the method that only returns it. */
@@ -106,21 +125,6 @@ final class Clones {
         JavaMethod method = around == null ? null : program.method(program.attribution().element(around));
         return method != null && isMaker(method, sites, program) && !sites.isReferenced(method.symbol())
             ? sites.of(method.symbol()) : List.of(call);
-    }
-
-    private static boolean isKin(MethodInvocationTree call, JavaClass home, Program program) {
-        Tree at = call;
-        while (at != null && !(at instanceof ClassTree)) {
-            at = program.attribution().parent(at);
-        }
-        JavaClass here = at == null ? null : program.find(program.attribution().element(at));
-        if (here == null || home == null) {
-            return true;
-        }
-        var types = program.attribution().types();
-        var one = types.erasure(here.symbol().asType());
-        var other = types.erasure(home.symbol().asType());
-        return types.isSubtype(one, other) || types.isSubtype(other, one);
     }
 
     /** Whether the copy's field surely gets a value of its own. */

@@ -239,7 +239,9 @@ final class Confinement {
         } else if (parent instanceof VariableTree variable) {
             Element symbol = attribution.element(variable);
             need(symbol != null);
-            add(symbol);
+            if (!ownership.taken().is(symbol)) {
+                add(symbol);
+            }
         } else if (parent instanceof ReturnTree) {
             need(program.around(parent) instanceof MethodTree);
             if (holds) {
@@ -258,7 +260,7 @@ final class Confinement {
         Element symbol = attribution.element(target);
         boolean named = symbol instanceof VariableElement && (target instanceof IdentifierTree || isOwn(target));
         need(named);
-        if (named) {
+        if (named && !ownership.taken().is(symbol)) {
             add(symbol);
         }
     }
@@ -294,6 +296,7 @@ final class Confinement {
             into(Uses.bare(assignment.getVariable()));
             source(assignment.getExpression());
         } else if (symbol instanceof VariableElement) {
+            need(!ownership.taken().is(symbol));
             into(bare);
         } else if (bare instanceof MethodInvocationTree && program.method(symbol) != null) {
             add(symbol);

@@ -57,6 +57,7 @@ public final class Escape {
     private final Results results;
     private final Implied implied;
     private final AtOnce atOnce;
+    private final Views views;
     /** The one for which an object gets away too where it is given back; this one itself where that counts here. */
     private final Escape whole;
     /** The one for which an object that is only given back stays. */
@@ -74,6 +75,7 @@ public final class Escape {
         results = new Results(attribution);
         implied = new Implied(program, this);
         atOnce = new AtOnce(program, this);
+        views = new Views(program, uses, this);
         whole = this;
         within = new Escape(this);
     }
@@ -87,13 +89,15 @@ public final class Escape {
         results = whole.results;
         implied = whole.implied;
         atOnce = whole.atOnce;
+        views = whole.views;
         within = this;
     }
 
-    /** Which functions are given to a method at hand that only calls them. */
-    void helpersCall(Predicate<Tree> functions) {
+    /** Which functions are given to a method at hand that only calls them, and which locals take the object of a field. */
+    void knows(Predicate<Tree> functions, Predicate<Element> taken) {
         isHandedOn = functions;
         within.isHandedOn = functions;
+        views.taken(taken);
     }
 
     /** What was found so far may rest on a guess of what methods do, and is to be found anew. */
@@ -105,6 +109,11 @@ public final class Escape {
     /** From which offset on the object may be known to others than the method's caller, to whom it may be given back. */
     long within(Tree use) {
         return within.from(use);
+    }
+
+    /** Whether an object gets away to its method's caller alone. */
+    public boolean returns(Tree use) {
+        return from(use) != NEVER && within(use) == NEVER;
     }
 
     /** Where {@code this} gets away in a method. */
@@ -127,13 +136,14 @@ public final class Escape {
             return assignment.getExpression() == use ? Math.min(further, into(assignment.getVariable(), assignment))
                 : further;
         } else if (parent instanceof VariableTree variable) {
-            return isOwnField(attribution.element(variable), use) ? NEVER : through(attribution.element(variable));
+            return isOwnField(attribution.element(variable), use) ? NEVER
+                : views.isLost(use, attribution.element(variable)) ? attribution.start(use) : through(attribution.element(variable));
         } else if (parent instanceof ReturnTree) {
             return this == whole ? attribution.end(parent) : NEVER;
         } else if (parent instanceof MemberReferenceTree reference) {
             return asReference(reference);
         } else if (parent instanceof ConditionalExpressionTree condition) {
-            return condition.getCondition() == use ? NEVER : from(parent);
+            return condition.getCondition() == use ? NEVER : views.are(use) ? attribution.start(use) : from(parent);
         } else if (parent instanceof EnhancedForLoopTree loop && results.mentionsEntry(
                 attribution.element(loop.getVariable()).asType())) {
             return through(attribution.element(loop.getVariable()));
@@ -154,7 +164,7 @@ public final class Escape {
     /** A method of the object that a name stands for: who calls it gets what it gives, such as a view of the object. */
     private long asReference(MemberReferenceTree reference) {
         boolean called = isCalledAtOnce(reference) || isHandedOn.test(reference);
-        if (!called || !(attribution.element(reference) instanceof ExecutableElement symbol) || givesItself(symbol)) {
+        if (!called || !(attribution.element(reference) instanceof ExecutableElement symbol) || Views.givesItself(symbol)) {
             return attribution.start(reference);
         }
         JavaMethod method = program.method(symbol);
@@ -178,7 +188,7 @@ public final class Escape {
         if (method != null) {
             return selves.leaks(method) ? attribution.start(call) : selves.gives(method) ? from(call) : NEVER;
         }
-        if (givesItself(symbol)) {
+        if (Views.givesItself(symbol)) {
             return from(call);
         }
         Choice choice = choose(select, symbol);
@@ -215,13 +225,6 @@ public final class Escape {
             }
         }
         return first;
-    }
-
-    /** Whether a library's method gives the object that it is called on, so that calls can be chained. */
-    static boolean givesItself(ExecutableElement symbol) {
-        String home = symbol.getEnclosingElement().toString();
-        return (home.equals("java.lang.StringBuilder") || home.equals("java.util.StringJoiner"))
-            && symbol.getReturnType().toString().equals(home);
     }
 
     private long asArgument(MethodInvocationTree call, Tree use) {
@@ -332,7 +335,7 @@ public final class Escape {
         }
         boolean local = symbol instanceof VariableElement && symbol.getKind() != ElementKind.FIELD
             && !(Uses.bare(target) instanceof ArrayAccessTree);
-        return local ? through(symbol) : attribution.end(assignment);
+        return local && !views.isLost(assignment.getExpression(), symbol) ? through(symbol) : attribution.end(assignment);
     }
 
     /** Whether a parameter's object gets away in its method. */
@@ -346,7 +349,7 @@ public final class Escape {
             return 0;
         }
         Long known = throughs.get(variable);
-        if (known != null || visited.contains(variable)) {
+        if (known != null || visited.contains(variable) || views.isTaken(variable)) {
             return known != null ? known : NEVER;
         } else if (visited.size() > MOST_NAMES) {
             return 0;

@@ -121,7 +121,7 @@ public final class Nodes {
                 field.getKind() == ElementKind.FIELD && types.mentions(field.asType())));
         Test test = new Test(types, nodes);
         if (linked) {
-            mentions.units(each.symbol(), each.outer().symbol()).forEach(unit -> test.scan(unit, null));
+            mentions.units(each.symbol()).forEach(unit -> test.scan(unit, null));
         }
         return linked && test.holds;
     }
@@ -197,6 +197,9 @@ public final class Nodes {
 
         @Override
         public Void scan(Tree tree, Void nothing) {
+            if (tree == null || mentions.isSilent(tree, node.symbol())) {
+                return null;
+            }
             if (tree instanceof ExpressionTree expression && isNodes(expression)
                     && attribution.element(tree) != node.symbol()) {
                 need(!inStatic && isInside(current));

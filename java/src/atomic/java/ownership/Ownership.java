@@ -46,6 +46,7 @@ public final class Ownership {
     private final LocalFunctions localFunctions;
     private final Comparators comparators;
     private final Brought brought;
+    private final Taken taken;
     private final Map<VariableElement, String> made = new HashMap<>();
     private final Map<JavaMethod, String> given = new HashMap<>();
     private final Map<VariableElement, Long> escapes = new HashMap<>();
@@ -54,8 +55,7 @@ public final class Ownership {
     private final Map<Element, VariableElement> confined = new HashMap<>();
     private final Set<VariableElement> shared = new HashSet<>();
     private static final String UNKNOWN = "";
-    private static final Set<String> PLAIN_MAPS = Set.of("java.util.HashMap", "java.util.LinkedHashMap", "java.util.TreeMap",
-        "java.util.IdentityHashMap", "java.util.WeakHashMap");
+    private static final Set<String> PLAIN_MAPS = Set.of("java.util.HashMap", "java.util.LinkedHashMap", "java.util.TreeMap", "java.util.IdentityHashMap", "java.util.WeakHashMap");
 
     public Ownership(Program program, Uses uses) {
         this.program = program;
@@ -67,7 +67,8 @@ public final class Ownership {
         localFunctions = new LocalFunctions(program, uses, escape);
         comparators = new Comparators(program, this);
         brought = new Brought(program, uses, sites);
-        escape.helpersCall(localFunctions::isHandedOn);
+        taken = new Taken(program, this);
+        escape.knows(localFunctions::isHandedOn, taken::is);
     }
 
     Uses uses() {
@@ -92,6 +93,11 @@ public final class Ownership {
         return comparators;
     }
 
+    /** The locals that take the object of a field for good. */
+    public Taken taken() {
+        return taken;
+    }
+
     /** The collections that code outside brings. */
     public Brought brought() {
         return brought;
@@ -99,20 +105,23 @@ public final class Ownership {
 
     /** Finds the fields whose objects stay within their classes, under whatever names. */
     public void confine() {
+        Map<JavaClass, List<MethodInvocationTree>> clones = Clones.byClass(program, uses);
         for (JavaClass each : program.classes()) {
+            List<MethodInvocationTree> copying = program.overriding().kin(each).stream().flatMap(kin ->
+                clones.getOrDefault(kin, List.of()).stream()).toList();
             for (Element member : each.symbol().getEnclosedElements()) {
                 if (member instanceof VariableElement field && field.getKind() == ElementKind.FIELD && !isOpen(field)
                         && program.library().hasContents(field.asType())) {
-                    confine(field);
+                    confine(field, copying);
                 }
             }
         }
     }
 
-    private void confine(VariableElement field) {
+    private void confine(VariableElement field, List<MethodInvocationTree> copying) {
         Confinement confinement = new Confinement(program, this, sites, field);
         Set<Element> holders = confinement.holders();
-        if (Clones.share(field, program, uses, sites)) {
+        if (Clones.share(field, copying, program, uses, sites)) {
             shared.add(field);
         }
         if (holders != null) {
@@ -181,6 +190,11 @@ public final class Ownership {
         return looks.only(parameter);
     }
 
+    /** Whether some code at hand calls a method by its name. */
+    public boolean isCalled(JavaMethod method) {
+        return !sites.of(method.symbol()).isEmpty() || sites.isReferenced(method.symbol());
+    }
+
     /** The field whose object a variable holds, or a method gives; null where that may be another one. */
     public VariableElement holding(Element name) {
         return confined.get(name);
@@ -237,6 +251,9 @@ public final class Ownership {
             return freshCall(call);
         }
         Element symbol = attribution.element(bare);
+        if (taken.isAlone(symbol, attribution.start(bare))) {
+            return taken.made(symbol);
+        }
         boolean local = symbol instanceof VariableElement && symbol.getKind() == ElementKind.LOCAL_VARIABLE;
         boolean handedOn = local && attribution.start(bare) <= escapes((VariableElement) symbol)
             && uses.of(symbol).stream().filter(use -> escape.from(use) != Escape.NEVER).skip(1).findAny().isEmpty();
@@ -266,7 +283,7 @@ public final class Ownership {
         if (symbol.getSimpleName().contentEquals("newSetFromMap") && call.getArguments().size() == 1) {
             return PLAIN_MAPS.contains(String.valueOf(fresh(call.getArguments().get(0)))) ? "java.util.HashSet" : null;
         }
-        if (Escape.givesItself(symbol) && call.getMethodSelect() instanceof MemberSelectTree select) {
+        if (Views.givesItself(symbol) && call.getMethodSelect() instanceof MemberSelectTree select) {
             return fresh(select.getExpression());
         }
         Choice choice = escape.choose(call.getMethodSelect(), symbol);

@@ -6,7 +6,9 @@ import atomic.java.program.JavaMethod;
 import atomic.java.program.Program;
 import com.sun.source.tree.ArrayAccessTree;
 import com.sun.source.tree.AssignmentTree;
+import com.sun.source.tree.BlockTree;
 import com.sun.source.tree.ClassTree;
+import com.sun.source.tree.ExpressionStatementTree;
 import com.sun.source.tree.ExpressionTree;
 import com.sun.source.tree.IdentifierTree;
 import com.sun.source.tree.LambdaExpressionTree;
@@ -16,6 +18,7 @@ import com.sun.source.tree.MethodInvocationTree;
 import com.sun.source.tree.MethodTree;
 import com.sun.source.tree.NewClassTree;
 import com.sun.source.tree.Tree;
+import com.sun.source.tree.VariableTree;
 import com.sun.source.util.TreeScanner;
 import java.util.ArrayList;
 import java.util.HashMap;
@@ -49,6 +52,8 @@ public final class Selves {
     private final Map<JavaMethod, Fate> guesses = new HashMap<>();
     private final Set<JavaMethod> open = new LinkedHashSet<>();
     private final List<JavaMethod> round = new ArrayList<>();
+    private final Keepers keepers;
+    private final Map<Tree, Long> begun = new HashMap<>();
     private boolean guessed;
     private UnaryOperator<JavaClass> containers = each -> null;
 
@@ -57,12 +62,14 @@ public final class Selves {
         this.uses = uses;
         this.escape = escape;
         attribution = program.attribution();
+        keepers = new Keepers(program, uses);
     }
 
     /** From here on it is known which classes are those of a container's nodes. */
     void nodesAre(UnaryOperator<JavaClass> container) {
         containers = container;
         known.clear();
+        begun.clear();
     }
 
     /** Whether the method, or one that overrides it, lets its object get away. */
@@ -117,27 +124,70 @@ public final class Selves {
         if (!same) {
             round.forEach(each -> guesses.put(each, known.remove(each)));
             escape.forget();
+            begun.clear();
         }
         return !same;
     }
 
+    /**
+     * Whether others may know a new object before a tree of its making has ended, which stands in a constructor or is run
+     * before one. What only goes into a field of the object shows it to nobody.
+     */
+    public boolean isKnownBefore(Tree tree, Tree member, JavaClass owner) {
+        long end = attribution.end(tree);
+        if (member instanceof MethodTree constructor) {
+            return run(owner) != Escape.NEVER || begun(constructor.getBody(), owner) < end;
+        }
+        return run(owner) < end || owner.methods().stream().anyMatch(each -> each.isConstructor() && isKnownFirst(each));
+    }
+
+    private static boolean isAbove(Tree statement) {
+        return statement instanceof ExpressionStatementTree one && one.getExpression() instanceof MethodInvocationTree call
+            && Uses.isName(call.getMethodSelect(), "super");
+    }
+
+    /** From which offset on others may know a new object by what runs before its constructors. */
+    private long run(JavaClass owner) {
+        return owner.tree().getMembers().stream().filter(Selves::runs).mapToLong(each -> begun(each, owner)).min()
+            .orElse(Escape.NEVER);
+    }
+
+    private static boolean runs(Tree member) {
+        return member instanceof VariableTree variable && !variable.getModifiers().getFlags().contains(Modifier.STATIC)
+            || member instanceof BlockTree block && !block.isStatic();
+    }
+
+    private long begun(Tree tree, JavaClass owner) {
+        Long before = begun.get(tree);
+        if (before == null) {
+            Scanner scanner = new Scanner(owner, true);
+            scanner.scan(tree, null);
+            before = scanner.found;
+            begun.put(tree, before);
+        }
+        return before;
+    }
+
     private Fate look(JavaMethod method) {
-        Scanner scanner = new Scanner(method.owner());
+        Scanner scanner = new Scanner(method.owner(), false);
         if (method.tree().getBody() != null) {
             scanner.scan(method.tree().getBody(), null);
         }
         long found = method.isConstructor() ? Math.min(scanner.found, initialisers(method)) : scanner.found;
-        return new Fate(found, scanner.given);
+        return new Fate(method.isConstructor() && isKnownFirst(method) ? 0 : found, scanner.given);
+    }
+
+    /** Whether the constructor above lets the object go, so that others may know it before anything is done here. */
+    private boolean isKnownFirst(JavaMethod constructor) {
+        List<? extends Tree> all = constructor.tree().getBody().getStatements();
+        return !all.isEmpty() && isAbove(all.get(0)) && begun(all.get(0), constructor.owner()) != Escape.NEVER;
     }
 
     /** A field's initialiser or a block of the class that lets the object go counts for the whole constructor. */
     private long initialisers(JavaMethod constructor) {
         for (Tree member : constructor.owner().tree().getMembers()) {
-            boolean runs = member instanceof com.sun.source.tree.VariableTree variable
-                && !variable.getModifiers().getFlags().contains(Modifier.STATIC)
-                || member instanceof com.sun.source.tree.BlockTree block && !block.isStatic();
-            Scanner scanner = new Scanner(constructor.owner());
-            if (runs) {
+            Scanner scanner = new Scanner(constructor.owner(), false);
+            if (runs(member)) {
                 scanner.scan(member, null);
             }
             if (scanner.found != Escape.NEVER) {
@@ -150,19 +200,34 @@ public final class Selves {
     /** Looks for uses of {@code this}, said or not. */
     private final class Scanner extends TreeScanner<Void, Void> {
         private final JavaClass self;
+        /** Whether what knows the object may be put into a field of it; whatever is done with such a field lets it get away. */
+        private final boolean putsAway;
         private long found = Escape.NEVER;
         private boolean given;
 
-        Scanner(JavaClass self) {
+        Scanner(JavaClass self, boolean putsAway) {
             this.self = self;
+            this.putsAway = putsAway;
         }
 
         /** A name of this object: it may get away by what is done with it, or be given back. */
         private void use(Tree name) {
-            if (escape.within(name) != Escape.NEVER) {
+            if (isPutAway(name)) {
+                return;
+            } else if (escape.within(name) != Escape.NEVER || putsAway && keepers.has(self) && !isOfField(name)) {
                 leak(name);
             }
             given |= escape.from(name) != Escape.NEVER;
+        }
+
+        private boolean isPutAway(Tree tree) {
+            return putsAway && keepers.isPutAway(tree, self);
+        }
+
+        /** Whether a name stands before that of a field. */
+        private boolean isOfField(Tree name) {
+            return attribution.parent(name) instanceof MemberSelectTree select
+                && !(attribution.parent(select) instanceof MethodInvocationTree call && call.getMethodSelect() == select);
         }
 
         private void leak(Tree at) {
@@ -189,7 +254,10 @@ public final class Selves {
 
         /** A field that may hold this object is one more name of it. */
         private void itself(Tree tree) {
-            if (uses.mayHoldItself(attribution.element(tree)) && !uses.isTarget(tree)) {
+            boolean done = putsAway && keepers.is(attribution.element(tree)) && !uses.isTarget(tree) && !isPutAway(tree);
+            if (done && !keepers.isOnlyNamed(tree)) {
+                leak(tree);
+            } else if (uses.mayHoldItself(attribution.element(tree)) && !uses.isTarget(tree)) {
                 use(tree);
             }
         }
@@ -212,7 +280,8 @@ public final class Selves {
             boolean own = tree.getMethodSelect() instanceof IdentifierTree || isSuper(tree);
             if (own && symbol instanceof ExecutableElement && !symbol.getModifiers().contains(Modifier.STATIC)) {
                 JavaMethod method = program.method(symbol);
-                if (method != null && leaks(method)) {
+                boolean begins = putsAway && method != null && method.isConstructor();
+                if (method != null && (begins ? isBegun(method) : leaks(method) || putsAway && keepers.has(self))) {
                     leak(tree);
                 } else if (method != null && gives(method)) {
                     use(tree);
@@ -222,6 +291,18 @@ public final class Selves {
                 }
             }
             return super.visitMethodInvocation(tree, nothing);
+        }
+
+        /** Whether others may know an object behind one of its constructors. */
+        private boolean isBegun(JavaMethod constructor) {
+            return run(constructor.owner()) != Escape.NEVER
+                || begun(constructor.tree().getBody(), constructor.owner()) != Escape.NEVER;
+        }
+
+        @Override
+        public Void visitMemberReference(MemberReferenceTree tree, Void nothing) {
+            return isPutAway(tree) && Uses.isName(tree.getQualifierExpression(), "this") ? null
+                : super.visitMemberReference(tree, nothing);
         }
 
         private boolean isSuper(MethodInvocationTree tree) {
@@ -236,7 +317,8 @@ public final class Selves {
                 made = program.find(attribution.element(tree.getClassBody()));
             }
             if (made != null && made.hasOuterObject() && tree.getEnclosingExpression() == null && isWithin(made)
-                    && !(containers.apply(made) == self && onlyKeeps(made)) && !(program.sure() && isPutAway(tree))) {
+                    && !(containers.apply(made) == self && Keepers.onlyKeeps(made)) && !(program.sure() && isStored(tree))
+                    && !(isPutAway(tree) && keepsQuiet(made))) {
                 leak(tree);
             }
             scan(tree.getEnclosingExpression(), null);
@@ -244,8 +326,14 @@ public final class Selves {
             return null;
         }
 
+        /** Whether the making of an inner object does nothing with the one around it, nor lets its own object go. */
+        private boolean keepsQuiet(JavaClass made) {
+            return Keepers.onlyKeeps(made) && program.find(made.symbol().getSuperclass()) == null
+                && made.methods().stream().noneMatch(each -> each.isConstructor() && from(each) != Escape.NEVER);
+        }
+
         /** Whether a new object goes into a field or an element of one, where others find it as long as they know this object. */
-        private boolean isPutAway(NewClassTree made) {
+        private boolean isStored(NewClassTree made) {
             Tree parent = attribution.parent(made);
             ExpressionTree target = parent instanceof AssignmentTree assignment ? assignment.getVariable() : null;
             while (target instanceof ArrayAccessTree element) {
@@ -253,28 +341,6 @@ public final class Selves {
             }
             return target instanceof IdentifierTree && attribution.element(target).getKind() == ElementKind.FIELD
                 && !attribution.element(target).getModifiers().contains(Modifier.STATIC);
-        }
-
-        /** Whether the making of a node does nothing with the container: no call, no other object, and no name for it. */
-        private boolean onlyKeeps(JavaClass node) {
-            boolean[] keeps = {true};
-            TreeScanner<Void, Void> scanner = new TreeScanner<>() {
-                @Override
-                public Void scan(Tree tree, Void nothing) {
-                    boolean calls = tree instanceof MethodInvocationTree call && !call.getMethodSelect().toString().equals("super");
-                    keeps[0] &= !calls && !(tree instanceof NewClassTree) && !(tree instanceof LambdaExpressionTree)
-                        && !(tree instanceof MemberReferenceTree) && !(tree instanceof MemberSelectTree select
-                        && select.getIdentifier().contentEquals("this"));
-                    return keeps[0] ? super.scan(tree, nothing) : null;
-                }
-            };
-            for (Tree member : node.tree().getMembers()) {
-                boolean runs = !(member instanceof MethodTree method) || method.getReturnType() == null;
-                if (runs && !(member instanceof ClassTree)) {
-                    scanner.scan(member, null);
-                }
-            }
-            return keeps[0];
         }
 
         /** Whether an object of a class knows this one: it stands within the class of this one, or in one above that. */
@@ -290,7 +356,9 @@ public final class Selves {
 
         @Override
         public Void visitLambdaExpression(LambdaExpressionTree tree, Void nothing) {
-            if (!escape.isCalledAtOnce(tree) && mentionsSelf(tree)) {
+            if (isPutAway(tree)) {
+                return null;
+            } else if (!escape.isCalledAtOnce(tree) && mentionsSelf(tree)) {
                 leak(tree);
                 return null;
             }

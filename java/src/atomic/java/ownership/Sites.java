@@ -77,9 +77,7 @@ final class Sites {
 
     /** Whether no class within another one extends it: there a name without an object would mean one of two. */
     boolean hasNoHeirWithin(JavaClass home) {
-        var types = attribution.types();
-        return program.classes().stream().noneMatch(each -> each != home && isWithin(each, home)
-            && types.isSubtype(types.erasure(each.symbol().asType()), types.erasure(home.symbol().asType())));
+        return program.overriding().below(home).stream().noneMatch(each -> each != home && isWithin(each, home));
     }
 
     private static boolean isWithin(JavaClass each, JavaClass home) {

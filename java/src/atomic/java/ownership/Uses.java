@@ -1,6 +1,7 @@
 package atomic.java.ownership;
 
 import atomic.java.attribution.Attribution;
+import com.sun.source.tree.ArrayAccessTree;
 import com.sun.source.tree.AssignmentTree;
 import com.sun.source.tree.ClassTree;
 import com.sun.source.tree.CompilationUnitTree;
@@ -274,5 +275,11 @@ public final class Uses {
             }
         }
         return loop;
+    }
+
+    /** Whether a method does more with a parameter than to keep it. */
+    public boolean isAsked(VariableElement parameter) {
+        return of(parameter).stream().map(attribution::parent).anyMatch(each -> each instanceof MemberSelectTree
+            || each instanceof ArrayAccessTree || each instanceof EnhancedForLoopTree || each instanceof MethodInvocationTree);
     }
 }
