@@ -49,6 +49,8 @@ final class Course {
     private final Set<Object> compared = new HashSet<>();
     private final List<Hold> held = new ArrayList<>();
     private final Set<Hold> own = new HashSet<>();
+    /** The methods whose bodies are being gone through, and how many locks were held where each was called. */
+    private final Map<Method, Integer> entered = new HashMap<>();
     private final Map<Integer, Integer> branches = new HashMap<>();
     private final Program program;
     private boolean dark;
@@ -73,7 +75,7 @@ final class Course {
         return events;
     }
 
-    /** Whether a lock is taken or given back in no form that is known: what is held isn't known then. */
+    /** Whether it isn't known what is held: a lock is taken in no form that is known, or by a method that calls itself. */
     boolean isDark() {
         return dark;
     }
@@ -151,7 +153,7 @@ final class Course {
             event(access.field(), known ? touch : new Touch(access.field(), kind, ""));
         } else if (part instanceof Part.Call call) {
             call(call, depth);
-        } else if (part instanceof Part.Region region) {
+        } else if (part instanceof Part.Region region && region.mode() != Part.Mode.NONE) {
             Hold hold = new Hold(numbers++, region.lock(), region.mode());
             taken.add(hold);
             held.add(hold);
@@ -192,15 +194,23 @@ final class Course {
                 (touch.kind().changesOnce() ? steps.subList(0, 1) : steps).forEach(each -> event(touch.object(), touch));
             }
         } else if (depth < DEEPEST) {
-            List<Method> all = callees.of(call.target());
+            Integer before = entered.putIfAbsent(call.target(), held.size());
+            dark = dark || before != null && held.size() > before;
             boolean other = others.contains(call.target());
             inOthers += other ? 1 : 0;
-            if (all.size() == 1) {
-                part(all.get(0).body(), depth + 1);
-            } else {
-                branch(all.stream().map(Method::body).toList(), depth + 1);
-            }
+            bodies(callees.of(call.target()), depth + 1);
             inOthers -= other ? 1 : 0;
+            if (before == null) {
+                entered.remove(call.target());
+            }
+        }
+    }
+
+    private void bodies(List<Method> all, int depth) {
+        if (all.size() == 1) {
+            part(all.get(0).body(), depth);
+        } else {
+            branch(all.stream().map(Method::body).toList(), depth);
         }
     }
 

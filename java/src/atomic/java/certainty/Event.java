@@ -6,6 +6,8 @@ import atomic.java.skeleton.Part;
 import atomic.java.skeleton.Path;
 import java.util.List;
 import java.util.Map;
+import javax.lang.model.element.VariableElement;
+import javax.lang.model.type.DeclaredType;
 
 /**
  * Something that a method does with a field, a collection or another object that others may know.
@@ -64,6 +66,14 @@ record Event(Object thing, Touch.Kind kind, String asked, List<Hold> held, Map<I
         boolean field = thing instanceof Field one && one.type() != null && other.thing instanceof Field inner
             && (one.type().fits(inner.owner()) || inner.owner().fits(one.type()));
         return field || other.thing instanceof Touch.Part part && part.whole().equals(thing);
+    }
+
+    /** Whether the other one touches a field of a node that is found through the atomic reference (or array) of this one. */
+    boolean walksTo(Event other) {
+        return thing instanceof VariableElement link && link.asType() instanceof DeclaredType type
+            && type.asElement().getSimpleName().toString().startsWith("AtomicReference")
+            && other.thing instanceof VariableElement inner && type.getTypeArguments().stream().anyMatch(each ->
+                each instanceof DeclaredType node && node.asElement().equals(inner.getEnclosingElement()));
     }
 
     /** Whether it is a change that is made only if nobody came in between. */

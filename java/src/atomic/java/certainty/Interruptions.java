@@ -36,12 +36,17 @@ import java.util.function.Predicate;
  * where a region asks the found one anything; two look-ups of two things, of which the other method changes one; two look-ups in
  * what the other method adds one thing to; the making of an object where it is wanted first, for who only looks; what is
  * added, and then filled, for who looks it up; what is done with an object that was dropped; plain data
- * that a later change publishes, and that the other method only looks at behind a test of that; a method that gives nothing,
- * and only adds one thing where it isn't; and all of a method that takes a lock in no form that is known.
+ * that a later change publishes, and that the other method only looks at behind a test of that; the way to a node through
+ * atomic references that are only changed where nobody came in between; a method that gives nothing, and only adds one thing
+ * where it isn't; and all of a method that takes a lock in no form that is known, or calls itself while it holds one more.
  */
 public final class Interruptions {
-    /** How often another method is held against a pair of events, at most: behind that no reason is seen. */
+    /**
+     * How often another method is held against a pair of events, at most: behind that no reason is seen. There is a share for
+     * each method besides, so that what is told of a class hardly depends on how many others are judged with it.
+     */
     private static final int MOST_LOOKS = 100_000;
+    private static final int LOOKS_OF_EACH = 500;
     private static final int MOST_LOOKS_OF_ONE = 5_000;
     private static final int MOST_PAIRS = 50_000;
 
@@ -60,19 +65,20 @@ public final class Interruptions {
 
     /** What is asked of another method for two events: whether it has a conflict with both. Many pairs ask the same. */
     private record Question(Course course, Pair things, boolean changesOne, boolean changesTwo, boolean found, boolean twice,
-            boolean apart, boolean publishes, boolean adds, boolean fills) {
+            boolean apart, boolean publishes, boolean adds, boolean fills, boolean walks) {
 
         static Question of(Course course, Event one, Event two) {
             return new Question(course, new Pair(one.thing(), two.thing()), one.writes(), two.writes(),
                 one.finds() && !one.isSame(two), one.finds() && two.finds(), !one.asked().equals(two.asked()),
                 one.isPlain() && !two.isPlain() && one.writes(), one.kind() == Touch.Kind.ADD,
-                one.kind() == Touch.Kind.ADD && one.leadsTo(two));
+                one.kind() == Touch.Kind.ADD && one.leadsTo(two),
+                one.walksTo(two) && (!one.writes() || one.kind().tries()));
         }
 
         /** Whether an event has a conflict with the first one. */
         boolean isFirst(Event each) {
-            return changesOne ? !(fills && each.finds()) && (course.looks(each) || adds && each.takes())
-                : each.writes() && !(found && each.kind().adds());
+            return changesOne ? !walks && !(fills && each.finds()) && (course.looks(each) || adds && each.takes())
+                : each.writes() && !(found && each.kind().adds()) && !(walks && each.kind().tries());
         }
 
         /** Whether an event has a conflict with the second one. */
@@ -97,32 +103,35 @@ public final class Interruptions {
         this.others.retainAll(all);
     }
 
-    /** The method that can tell that this one was interrupted, or null where none is seen. Two events of one thing come first. */
-    public Method witness(Method method) {
+    /**
+     * What may run in the middle of this method so that no order of whole calls gives the same: a method, or one and then
+     * another. There is none where none is seen. Two events of one thing come first.
+     */
+    public List<Method> witnesses(Method method) {
         Course course = course(method);
         if (course.isDark() || silent.test(method) && course.addsOne()) {
-            return null;
+            return List.of();
         }
-        int most = Math.min(MOST_LOOKS, looks + MOST_LOOKS_OF_ONE);
-        Method found = witness(course, true, most);
-        return found == null ? witness(course, false, most) : found;
+        int most = Math.min(MOST_LOOKS + LOOKS_OF_EACH * others.size(), looks + MOST_LOOKS_OF_ONE);
+        List<Method> found = witnesses(course, true, most);
+        return found.isEmpty() ? witnesses(course, false, most) : found;
     }
 
-    /** The method that tells apart two events that touch the same, or that don't. */
-    private Method witness(Course course, boolean same, int most) {
+    /** What tells apart two events that touch the same, or that don't. */
+    private List<Method> witnesses(Course course, boolean same, int most) {
         List<Event> events = course.events();
         for (int second = 1; second < events.size(); second++) {
             for (int first = 0; first < second && looks < most; first++) {
                 Event one = events.get(first);
                 Event two = events.get(second);
-                Method found = one.isSame(two) == same && one.meets(two) && counts(course, first, second)
-                    ? reason(course, one, two) : null;
-                if (found != null) {
+                List<Method> found = one.isSame(two) == same && one.meets(two) && counts(course, first, second)
+                    ? reason(course, one, two) : List.of();
+                if (!found.isEmpty()) {
                     return found;
                 }
             }
         }
-        return null;
+        return List.of();
     }
 
     private Course course(Method method) {
@@ -141,9 +150,12 @@ public final class Interruptions {
     }
 
     /** A method that tells the two steps apart; else one of two that change, one by one, the things that are looked at. */
-    private Method reason(Course course, Event one, Event two) {
+    private List<Method> reason(Course course, Event one, Event two) {
         Method found = between(one, two);
-        return found == null && needsBoth(course, one, two) ? oneByOne(one, two) : found;
+        if (found != null) {
+            return List.of(found);
+        }
+        return needsBoth(course, one, two) ? oneByOne(one, two) : List.of();
     }
 
     /** The other methods that touch both. */
@@ -168,14 +180,15 @@ public final class Interruptions {
     /** Whether two looks at two things are both made whatever the first one tells: then what the method gives needs both. */
     private static boolean needsBoth(Course course, Event one, Event two) {
         return one.kind() == Touch.Kind.LOOK && two.kind() == Touch.Kind.LOOK && !one.isSame(two)
-            && one.branches().equals(two.branches()) && course.looks(one) && course.looks(two);
+            && !one.walksTo(two) && !one.leadsTo(two) && one.branches().equals(two.branches()) && course.looks(one) && course.looks(two);
     }
 
     /** A method that changes the first thing, where another one then changes the second: so nobody ever had the two. */
-    private Method oneByOne(Event one, Event two) {
+    private List<Method> oneByOne(Event one, Event two) {
         List<Event.Hold> around = one.around(two);
         Method first = changing(one, around);
-        return first != null && changing(two, around) != null ? first : null;
+        Method then = first == null ? null : changing(two, around);
+        return then == null ? List.of() : List.of(first, then);
     }
 
     private Method changing(Event event, List<Event.Hold> around) {

@@ -7,7 +7,6 @@ import java.util.LinkedHashMap;
 import java.util.List;
 import java.util.Map;
 import java.util.Set;
-import java.util.function.Predicate;
 import java.util.regex.Matcher;
 import java.util.regex.Pattern;
 import java.util.stream.Collectors;
@@ -32,12 +31,12 @@ final class Certainty {
 
     private final List<String> lines;
     private final Map<String, List<String>> certain;
-    private final Predicate<String> told;
+    private final Map<String, String> witnesses;
 
-    /** The errors of both kinds; {@code told} says of a method's place whether some method can tell an interruption. */
-    Certainty(List<String> lines, List<String> certainLines, Predicate<String> told) {
+    /** The errors of both kinds; {@code witnesses} has for a method's place the line about who may run in between. */
+    Certainty(List<String> lines, List<String> certainLines, Map<String, String> witnesses) {
         this.lines = lines;
-        this.told = told;
+        this.witnesses = witnesses;
         certain = blocks(certainLines);
     }
 
@@ -55,11 +54,17 @@ final class Certainty {
             String place = key.substring(0, key.indexOf(ERROR));
             if (sure == null) {
                 all.add(place + DOUBT);
-            } else if (!sure.get(0).endsWith(UNGUARDED) && !told.test(place)) {
-                all.add(place + UNSEEN);
+            } else if (!sure.get(0).endsWith(UNGUARDED)) {
+                all.add(witnesses.getOrDefault(place, place + UNSEEN));
             }
         });
         return all;
+    }
+
+    /** What stands behind the place of an error where these methods may run in between, so that somebody can tell. */
+    static String between(List<String> methods) {
+        return ": note: if another thread runs " + String.join(" and then ", methods)
+            + " in between, the outcome may fit no order of whole calls";
     }
 
     /** The files in which some error may be a wrong alarm for what is approximated. */

@@ -4,11 +4,11 @@ import atomic.java.options.Options;
 import atomic.java.options.Refusal;
 import java.io.File;
 import java.io.IOException;
+import java.io.OutputStream;
 import java.nio.charset.StandardCharsets;
 import java.nio.file.Files;
 import java.nio.file.Path;
 import java.util.ArrayList;
-import java.util.LinkedHashSet;
 import java.util.List;
 import java.util.Set;
 import java.util.concurrent.ExecutionException;
@@ -29,20 +29,25 @@ public final class Checker implements AutoCloseable {
     /** The most bytes that it reads. */
     public static final int MOST_BYTES = 262_144;
 
+    /** Its statuses that are answers. */
+    private static final Set<Integer> ANSWERS = Set.of(0, 2, Options.NOT_JAVA, Options.TOO_LARGE);
+
+    /** What it is told to read: a text is handed over as its input, so that no file is left behind, however this ends. */
+    private static final String INPUT = "/dev/stdin";
+
     private final Path program = find();
     private final ExecutorService runs = Executors.newFixedThreadPool(Runtime.getRuntime().availableProcessors());
-    private final Set<Path> files = new LinkedHashSet<>();
 
     /** A text that is being judged. */
     public final class Question {
-        private final Path file;
+        private final byte[] text;
         private final Future<Answer> explained;
         private final Future<Answer> listed;
 
-        private Question(Path file, boolean listed) {
-            this.file = file;
-            this.explained = runs.submit(() -> answer(file));
-            this.listed = listed ? runs.submit(() -> answer(file, "--all")) : null;
+        private Question(byte[] text, boolean listed) {
+            this.text = text;
+            this.explained = runs.submit(() -> answer(text));
+            this.listed = listed ? runs.submit(() -> answer(text, "--all")) : null;
         }
 
         /** Waits for the explanations alone. */
@@ -52,7 +57,7 @@ public final class Checker implements AutoCloseable {
 
         /** Waits for what each part is, and asks for it where nobody has. */
         public Answer listed() {
-            return wait(listed != null ? listed : runs.submit(() -> answer(file, "--all")));
+            return wait(listed != null ? listed : runs.submit(() -> answer(text, "--all")));
         }
 
         private Answer wait(Future<Answer> answer) {
@@ -62,7 +67,8 @@ public final class Checker implements AutoCloseable {
                 if (fault.getCause() instanceof Error error) {
                     throw error;
                 }
-                throw new Refusal(Options.NO_CHECKER, "cannot run " + program + ": " + fault.getCause().getMessage());
+                throw fault.getCause() instanceof Refusal refusal ? refusal
+                    : new Refusal(Options.NO_CHECKER, "cannot run " + program + ": " + fault.getCause().getMessage());
             } catch (InterruptedException fault) {
                 throw new Refusal(Options.NO_CHECKER, "interrupted while " + program + " ran");
             }
@@ -71,30 +77,38 @@ public final class Checker implements AutoCloseable {
 
     /** Has a text judged. Its parts are listed at the same time, by a process of its own. */
     public Question ask(byte[] text, boolean listed) {
-        try {
-            Path file = Files.createTempFile("atomic-java-", ".skeleton");
-            files.add(file);
-            Files.write(file, text);
-            return new Question(file, listed);
+        return new Question(text, listed);
+    }
+
+    private Answer answer(byte[] text, String... options) throws IOException, InterruptedException {
+        List<String> words = new ArrayList<>(List.of(program.toString()));
+        words.addAll(List.of(options));
+        words.add(INPUT);
+        Process process = new ProcessBuilder(words).redirectError(ProcessBuilder.Redirect.INHERIT).start();
+        hand(text, process);
+        String told = new String(process.getInputStream().readAllBytes(), StandardCharsets.UTF_8);
+        String front = INPUT + ":";
+        List<String> lines = told.lines().map(line -> line.startsWith(front) ? line.substring(front.length()) : line)
+            .toList();
+        int status = process.waitFor();
+        if (status == Options.NO_MEMORY) {
+            throw new Refusal(status, "the sources are too large: memory ran out in " + program);
+        } else if (!ANSWERS.contains(status) || status == Options.NOT_JAVA && lines.isEmpty()) {
+            throw new Refusal(Options.NO_CHECKER, program + " gives no answer, but status " + status);
+        }
+        return new Answer(status, lines);
+    }
+
+    private static void hand(byte[] text, Process process) {
+        try (OutputStream input = process.getOutputStream()) {
+            input.write(text);
         } catch (IOException fault) {
-            throw new Refusal(Options.NO_CHECKER, "cannot write a file for " + program + ": " + fault.getMessage());
+            // It ended before it had read all of it: its status says why.
+            return;
         }
     }
 
-    private Answer answer(Path file, String... options) throws IOException, InterruptedException {
-        List<String> words = new ArrayList<>(List.of(program.toString()));
-        words.addAll(List.of(options));
-        words.add(file.toString());
-        Process process = new ProcessBuilder(words).redirectError(ProcessBuilder.Redirect.INHERIT).start();
-        process.getOutputStream().close();
-        String told = new String(process.getInputStream().readAllBytes(), StandardCharsets.UTF_8);
-        String front = file + ":";
-        List<String> lines = told.lines().map(line -> line.startsWith(front) ? line.substring(front.length()) : line)
-            .toList();
-        return new Answer(process.waitFor(), lines);
-    }
-
-    /** Begins no further run, waits for those that have begun, and leaves no file behind. */
+    /** Begins no further run, and waits for those that have begun. */
     @Override
     public void close() {
         runs.shutdownNow();
@@ -102,16 +116,6 @@ public final class Checker implements AutoCloseable {
             runs.awaitTermination(1, TimeUnit.MINUTES);
         } catch (InterruptedException fault) {
             Thread.currentThread().interrupt();
-        }
-        files.forEach(Checker::remove);
-    }
-
-    private static void remove(Path file) {
-        try {
-            Files.deleteIfExists(file);
-        } catch (IOException fault) {
-            // A temporary file that can't be removed changes no answer.
-            return;
         }
     }
 

@@ -36,6 +36,9 @@ final class Judging {
     private static final String COUNTED = " [more-errors]";
     private static final int MOST_REPAIRS = 2_000;
 
+    /** Of so many parts of what is too much for one text, one is taken out before the rest is looked at again. */
+    private static final int CUT_PARTS = 4;
+
     private final Program program;
     private final Methods methods;
     private final Checker checker;
@@ -85,6 +88,14 @@ final class Judging {
             // What is refused once may be refused again: only what is accepted is listed then.
             question = checker.ask(text.bytes(), listed && question == null);
         }
+
+        Checker.Answer explained() {
+            return pieces.spelled(question.explained());
+        }
+
+        Checker.Answer listed() {
+            return pieces.spelled(question.listed());
+        }
     }
 
     /** Begins to judge all methods. */
@@ -116,19 +127,24 @@ final class Judging {
         asked.clear();
     }
 
-    /** The places of methods with an error of which some method can tell that another thread came in between. */
-    Map<String, Method> witnessed(List<String> errors) {
+    /** For the places of methods with an error of which somebody can tell that another thread came in between: what ran there. */
+    Map<String, String> witnesses(List<String> errors) {
         Set<String> places = places(errors);
         Interruptions interruptions = new Interruptions(program, methods.callable(), methods::givesNothing);
-        Map<String, Method> witnesses = new HashMap<>();
+        Map<String, String> witnesses = new HashMap<>();
         for (Method each : roots()) {
             String place = String.valueOf(each.place());
-            Method witness = places.contains(place) ? interruptions.witness(each) : null;
-            if (witness != null) {
-                witnesses.putIfAbsent(place, witness);
+            List<Method> found = places.contains(place) ? interruptions.witnesses(each) : List.of();
+            if (!found.isEmpty()) {
+                witnesses.putIfAbsent(place, found.get(0).place() + Certainty.between(found.stream().map(this::shown).toList()));
             }
         }
         return witnesses;
+    }
+
+    /** What Java calls a method. */
+    private String shown(Method method) {
+        return program.names().shown(method.owner().name()) + "." + program.names().shown(method.name());
     }
 
     private static Set<String> places(List<String> errors) {
@@ -147,9 +163,9 @@ final class Judging {
 
     private void judge(Piece piece) {
         for (int k = 0; k < MOST_REPAIRS; k++) {
-            Checker.Answer told = piece.question.explained();
+            Checker.Answer told = piece.explained();
             if (told.status() != Options.NOT_JAVA && told.status() != Options.TOO_LARGE) {
-                accept(piece, told, piece.listed ? piece.question.listed() : new Checker.Answer(0, List.of()));
+                accept(piece, told, piece.listed ? piece.listed() : new Checker.Answer(0, List.of()));
                 return;
             }
             if (piece.repaired == repairs) {
@@ -185,7 +201,7 @@ final class Judging {
         Set<String> heads = told.stream().filter(each -> each.contains(Certainty.ERROR))
             .map(each -> each.substring(0, each.indexOf(Certainty.ERROR))).collect(Collectors.toSet());
         List<String> more = new ArrayList<>();
-        for (String line : piece.question.listed().lines()) {
+        for (String line : piece.listed().lines()) {
             Matcher parts = LISTED.matcher(line);
             if (parts.matches() && parts.group(2).equals("error") && heads.add(parts.group(1))) {
                 more.add(parts.group(1) + Certainty.ERROR + parts.group(3) + " is declared "
@@ -217,14 +233,21 @@ final class Judging {
             .orElse(null);
     }
 
-    /** Makes the largest method compound, where the methods that one calls don't fit into one text. */
-    private boolean cut(Set<Method> wanted) {
-        Method method = largest(wanted);
-        if (method != null && reduced.add(method)) {
+    /**
+     * Makes the largest methods compound, where those that one calls are more than fits into one text. What only these call
+     * is out of it then too, so a part of them is taken at a time.
+     */
+    private boolean cut(Set<Method> wanted, int excess) {
+        List<Method> largest = wanted.stream().filter(each -> !reduced.contains(each))
+            .sorted(Comparator.comparingInt(pieces::bytes).reversed()).toList();
+        int rest = excess / CUT_PARTS;
+        for (int k = 0; k < largest.size() && rest >= 0; k++) {
+            Method method = largest.get(k);
+            rest -= pieces.bytes(method);
+            reduced.add(method);
             reduce(method, "too large");
-            return true;
         }
-        return false;
+        return !largest.isEmpty();
     }
 
     private void reduce(Method method, String kind) {
@@ -241,7 +264,7 @@ final class Judging {
         if (program.sure()) {
             method.loose().clear();
             method.body(Part.NOTHING);
-            pieces.forget(method);
+            pieces.cut(method);
             return;
         }
         Part.Call unknown = methods.several("what is past a limit of the checker", method.place());
@@ -252,7 +275,7 @@ final class Judging {
         Marking.run(List.of(pastLimit));
         method.loose().clear();
         method.body(unknown);
-        pieces.forget(method);
+        pieces.cut(method);
     }
 
     /** Methods that override each other and don't agree require nothing, and all promise what one of them promises. */

@@ -1,6 +1,8 @@
 package atomic.java.driver;
 
 import atomic.java.passes.Callees;
+import atomic.java.passes.Limits;
+import atomic.java.places.Aliases;
 import atomic.java.places.Frame;
 import atomic.java.places.Text;
 import atomic.java.places.Writer;
@@ -20,7 +22,7 @@ import java.util.LinkedHashSet;
 import java.util.List;
 import java.util.Map;
 import java.util.Set;
-import java.util.function.Predicate;
+import java.util.function.BiPredicate;
 import java.util.stream.Stream;
 
 /**
@@ -49,9 +51,11 @@ final class Pieces {
     private final Map<Method, Measure> measures = new HashMap<>();
     private final Map<Method, List<Method>> nexts = new HashMap<>();
     private final Map<Shape, Integer> sizes = new HashMap<>();
+    private final Set<Method> cut = new HashSet<>();
     private final Deque<Method> waiting = new ArrayDeque<>();
     private int frame;
-    private boolean flat;
+    private Aliases aliases;
+    private boolean crowded;
     private boolean narrow;
 
     Pieces(Program program, Callees callees) {
@@ -59,21 +63,23 @@ final class Pieces {
         this.callees = callees;
     }
 
-    /** Begins with the pieces of these methods. What doesn't fit into one text is written without indentation. */
+    /** Begins with the pieces of these methods. What doesn't fit into one text is written briefly. */
     void begin(List<Method> roots) {
         waiting.clear();
         waiting.addAll(roots);
+        crowded = program.statics().fields().stream().filter(Field::used).count() > Limits.MOST_FINAL;
+        narrow = crowded;
         frame = text(writer(), Set.of()).length();
         Set<Method> whole = new LinkedHashSet<>();
         roots.forEach(root -> reach(root, Set.of(), whole));
-        if (!flat && !new Piece().hasRoom(whole)) {
-            flat = true;
+        if (aliases == null && new Piece().excess(whole) > 0) {
+            aliases = new Aliases();
             measures.clear();
+            sizes.clear();
+            narrow = crowded || text(writer(), Set.of()).length() > Checker.MOST_BYTES / 2;
             frame = text(writer(), Set.of()).length();
-            narrow = frame > Checker.MOST_BYTES / 2;
-            frame = narrow ? text(writer(), Set.of()).length() : frame;
             waiting.clear();
-            waiting.addAll(largestFirst(roots));
+            waiting.addAll(crowded ? roots : largestFirst(roots));
         }
     }
 
@@ -81,28 +87,37 @@ final class Pieces {
         return !waiting.isEmpty();
     }
 
-    /** The next piece. Where a method calls too much for one text, {@code cut} makes something smaller, if it can. */
-    Set<Method> next(Predicate<Set<Method>> cut) {
+    /**
+     * The next piece. Where the methods that one calls are too many bytes for one text, {@code cut} is given these, and how
+     * many are too many, and makes something smaller if it can; where they name too many classes' statics, it is given that one.
+     */
+    Set<Method> next(BiPredicate<Set<Method>, Integer> cut) {
         Piece piece = new Piece();
         while (!waiting.isEmpty()) {
             Set<Method> more = new LinkedHashSet<>();
-            reach(waiting.peek(), piece.methods, more);
-            if (!piece.hasRoom(more)) {
-                if (!piece.methods.isEmpty()) {
-                    break;
-                } else if (cut.test(more)) {
-                    continue;
-                }
+            Method root = waiting.peek();
+            reach(root, piece.methods, more);
+            int excess = piece.excess(more);
+            if (excess > 0 && !piece.methods.isEmpty()) {
+                break;
+            } else if (excess <= 0 || !cut.test(piece.crowds(more) ? Set.of(root) : more, excess)) {
+                piece.add(more);
+                waiting.remove();
             }
-            piece.add(more);
-            waiting.remove();
         }
         return piece.methods;
     }
 
     /** A writer for texts as long as these. */
     Writer writer() {
-        return new Writer(program.names(), program.helpers()).flat(flat);
+        Writer writer = new Writer(program.names(), program.helpers());
+        return aliases == null ? writer : writer.brief(aliases);
+    }
+
+    /** What the checker says of such a text, in the names of the skeleton. */
+    Checker.Answer spelled(Checker.Answer told) {
+        return aliases == null ? told
+            : new Checker.Answer(told.status(), told.lines().stream().map(aliases::spelled).toList());
     }
 
     /** The text of these methods. Where all classes would take most of it, it has those that the methods name. */
@@ -117,12 +132,23 @@ final class Pieces {
 
     private List<Method> largestFirst(List<Method> roots) {
         Map<Method, Integer> sizes = new HashMap<>();
-        for (Method root : roots) {
-            Set<Method> all = new LinkedHashSet<>();
-            reach(root, Set.of(), all);
-            sizes.put(root, all.stream().mapToInt(this::bytes).sum());
-        }
+        roots.forEach(root -> sizes.put(root, reachedBytes(root)));
         return roots.stream().sorted(Comparator.comparing(sizes::get).reversed()).toList();
+    }
+
+    /** The bytes of a method and all that it reaches, as far as they fit into one text. */
+    private int reachedBytes(Method root) {
+        Set<Method> reached = new HashSet<>();
+        Deque<Method> further = new ArrayDeque<>(List.of(root));
+        int bytes = 0;
+        while (!further.isEmpty() && bytes < Checker.MOST_BYTES) {
+            Method each = further.pop();
+            if (reached.add(each)) {
+                bytes += bytes(each);
+                further.addAll(next(each));
+            }
+        }
+        return Math.min(bytes, Checker.MOST_BYTES);
     }
 
     /** A method and all that it calls or overrides, and what overrides these, without those that are known before. */
@@ -138,8 +164,11 @@ final class Pieces {
 
     private List<Method> next(Method method) {
         return nexts.computeIfAbsent(method, each -> {
-            Set<Method> all = new LinkedHashSet<>(each.overridden());
-            all.addAll(callees.of(each));
+            Set<Method> all = new LinkedHashSet<>();
+            if (!cut.contains(each)) {
+                all.addAll(each.overridden());
+                all.addAll(callees.of(each));
+            }
             calls(each.body(), all);
             return List.copyOf(all);
         });
@@ -157,8 +186,9 @@ final class Pieces {
         return measure(method).bytes();
     }
 
-    /** A method has another body now. */
-    void forget(Method method) {
+    /** A method counts as compound now: it has another body, and it doesn't matter what overrides it. */
+    void cut(Method method) {
+        cut.add(method);
         measures.remove(method);
         nexts.remove(method);
     }
@@ -171,26 +201,30 @@ final class Pieces {
     }
 
     /** About the bytes of a class without its own fields: its constructor has the final fields of those above it. */
-    private static int length(Shape shape) {
-        int bytes = 2 * shape.name().length() + DECLARED_BYTES;
+    private int length(Shape shape) {
+        int bytes = 2 * length(shape.name()) + DECLARED_BYTES;
         for (Shape each = shape.parent(); each != null; each = each.parent()) {
-            bytes += each.name().length() + each.fields().stream().filter(Field::used).mapToInt(Pieces::inConstructor).sum();
+            bytes += length(each.name()) + each.fields().stream().filter(Field::used).mapToInt(this::inConstructor).sum();
         }
         return bytes;
     }
 
     /** About the bytes of a field. */
-    private static int length(Field field) {
-        int guard = field.guard() == null ? 0 : field.guard().lock().stream().mapToInt(each -> each.name().length() + 1).sum();
-        return field.name().length() + typeLength(field) + DECLARED_BYTES + guard + inConstructor(field);
+    private int length(Field field) {
+        int guard = field.guard() == null ? 0 : field.guard().lock().stream().mapToInt(each -> length(each.name()) + 1).sum();
+        return length(field.name()) + typeLength(field) + DECLARED_BYTES + guard + inConstructor(field);
     }
 
-    private static int inConstructor(Field field) {
-        return field.fixed() ? 3 * field.name().length() + typeLength(field) + FINAL_BYTES : 0;
+    private int inConstructor(Field field) {
+        return field.fixed() ? 3 * length(field.name()) + typeLength(field) + FINAL_BYTES : 0;
     }
 
-    private static int typeLength(Field field) {
-        return field.type() == null ? 3 : field.type().name().length();
+    private int typeLength(Field field) {
+        return field.type() == null ? 3 : length(field.type().name());
+    }
+
+    private int length(String name) {
+        return (aliases == null ? name : aliases.of(name)).length();
     }
 
     /** The methods of one text, with about the length of that. */
@@ -198,13 +232,27 @@ final class Pieces {
         private final Set<Method> methods = new LinkedHashSet<>();
         private final Set<Object> had = new HashSet<>();
         private int size = frame + SPARE_BYTES;
+        private int statics;
 
-        boolean hasRoom(Set<Method> more) {
-            return size + size(more, new HashSet<>()) <= Checker.MOST_BYTES;
+        /** How many bytes there are too many with further methods; at least one where too many classes' statics are named. */
+        int excess(Set<Method> more) {
+            int bytes = size + size(more, new HashSet<>()) - Checker.MOST_BYTES;
+            return crowds(more) ? Math.max(1, bytes) : bytes;
+        }
+
+        /** Whether further methods name more classes' statics than the object that leads to these may have in one text. */
+        boolean crowds(Set<Method> more) {
+            return crowded && statics + further(more, new HashSet<>()) > Limits.MOST_FINAL;
+        }
+
+        private int further(Set<Method> more, Set<Object> further) {
+            return (int) more.stream().flatMap(each -> further(measure(each).frame().fields(), further))
+                .filter(each -> each.owner() == program.statics()).count();
         }
 
         void add(Set<Method> more) {
             Set<Object> further = new HashSet<>();
+            statics += crowded ? further(more, new HashSet<>()) : 0;
             size += size(more, further);
             methods.addAll(more);
             had.addAll(further);
@@ -218,8 +266,8 @@ final class Pieces {
                 size += measure.bytes();
                 size += further(measure.somes(), further).mapToInt(line -> line.length() + SOME_BYTES).sum();
                 size += further(measure.frame().shapes(), further).mapToInt(shape ->
-                    sizes.computeIfAbsent(shape, Pieces::length)).sum();
-                size += further(measure.frame().fields(), further).mapToInt(Pieces::length).sum();
+                    sizes.computeIfAbsent(shape, Pieces.this::length)).sum();
+                size += further(measure.frame().fields(), further).mapToInt(Pieces.this::length).sum();
             }
             return size;
         }

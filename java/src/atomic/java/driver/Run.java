@@ -30,9 +30,8 @@ import java.io.IOException;
 import java.nio.file.Files;
 import java.nio.file.Path;
 import java.util.ArrayList;
-import java.util.HashSet;
 import java.util.List;
-import java.util.Set;
+import java.util.Map;
 
 /** One run of the program: from the words of the command line to the answer. */
 public final class Run {
@@ -112,9 +111,9 @@ public final class Run {
             certain.ask(judging.lines());
             certain.finish();
         }
-        Set<String> told = new HashSet<>(judging.witnessed(judging.lines()).keySet());
-        told.retainAll(certain.witnessed(judging.lines()).keySet());
-        return new Certainty(judging.lines(), certain.lines(), told::contains).lines();
+        Map<String, String> witnesses = judging.witnesses(judging.lines());
+        witnesses.keySet().retainAll(certain.witnesses(judging.lines()).keySet());
+        return new Certainty(judging.lines(), certain.lines(), witnesses).lines();
     }
 
     /** Without promises or guards little is judged: what would help is told, beside the answer. */

@@ -29,12 +29,15 @@ public final class Held {
     private final Map<Method, Set<Path>> entry = new HashMap<>();
     private final Map<Method, Set<Path>> found = new HashMap<>();
     private final Set<Method> closed = new HashSet<>();
+    /** Of the methods that override or are overridden, those furthest up: all of one kind find the same locks of their object. */
+    private final Map<Method, Method> heads = new HashMap<>();
     private final Set<Method> waiting = new LinkedHashSet<>();
 
     public Held(Collection<Method> methods) {
         this.methods = methods;
         callees = new Callees(methods);
         methods.stream().filter(this::isClosed).forEach(closed::add);
+        closed.stream().filter(each -> !callees.isAlone(head(each))).forEach(each -> heads.put(each, head(each)));
         settle();
     }
 
@@ -48,7 +51,8 @@ public final class Held {
     private void settle() {
         Set<Method> called = new HashSet<>();
         methods.forEach(method -> calls(method.body(), called));
-        methods.stream().filter(method -> !closed.contains(method) || !called.contains(method)).forEach(method -> {
+        methods.stream().filter(method -> !closed.contains(method) || callees.of(heads.getOrDefault(method, method)).stream()
+                .noneMatch(called::contains)).forEach(method -> {
             entry.put(method, new HashSet<>(method.required()));
             waiting.add(method);
         });
@@ -66,9 +70,19 @@ public final class Held {
         part.parts().forEach(each -> calls(each, called));
     }
 
-    /** Whether all calls of a method are known, and mean this method alone. */
+    /** Whether all calls of a method are known, and mean this method alone, or one of those that override it and are known too. */
     boolean isClosed(Method method) {
-        return method.closed() && method.overridden().isEmpty() && callees.isAlone(method);
+        Method head = head(method);
+        return head != null && callees.of(head).stream().allMatch(each -> each.closed() && head(each) == head);
+    }
+
+    /** The method furthest up that a method overrides; null where there are two ways up. */
+    private Method head(Method method) {
+        Method each = method;
+        while (each.overridden().size() == 1) {
+            each = each.overridden().get(0);
+        }
+        return each.overridden().isEmpty() ? each : null;
     }
 
     /** Goes through all accesses. */
@@ -100,21 +114,29 @@ public final class Held {
 
     /** What a callee finds held, in its own names: no more than each other call brings. */
     private void pass(Part.Call call, Set<Path> held) {
-        Method callee = call.target();
+        Method callee = heads.getOrDefault(call.target(), call.target());
         Set<Path> inside = new HashSet<>();
-        Path.Root self = new Path.Root(Path.Kind.THIS, "this", callee.owner());
-        for (Path lock : held) {
-            rename(lock, call.receiver(), self, inside);
-            for (int k = 0; k < callee.parameters().size() && k < call.arguments().size(); k++) {
+        held.forEach(lock -> rename(lock, call.receiver(), self(callee), inside));
+        for (int k = 0; k < callee.parameters().size() && k < call.arguments().size() && !heads.containsKey(callee); k++) {
+            for (Path lock : held) {
                 rename(lock, call.arguments().get(k), callee.parameters().get(k), inside);
             }
         }
         Set<Path> now = found.computeIfAbsent(callee, key -> inside);
         now.retainAll(inside);
-        Set<Path> whole = new HashSet<>(now);
-        whole.addAll(callee.required());
-        if (!whole.equals(entry.put(callee, whole))) {
-            waiting.add(callee);
+        (heads.containsKey(callee) ? callees.of(callee) : List.of(callee)).forEach(each -> enter(each, now));
+    }
+
+    private static Path.Root self(Method method) {
+        return new Path.Root(Path.Kind.THIS, "this", method.owner());
+    }
+
+    /** A method finds these locks held, and those that it requires. */
+    private void enter(Method method, Set<Path> locks) {
+        Set<Path> whole = new HashSet<>(method.required());
+        locks.forEach(lock -> whole.add(heads.containsKey(method) ? Path.of(self(method)).then(lock.fields()) : lock));
+        if (!whole.equals(entry.put(method, whole))) {
+            waiting.add(method);
         }
     }
 

@@ -32,7 +32,7 @@ public final class Limits {
     private static final int MOST_FIELDS = 30;
 
     /** The language's limit of parameters: the constructor of a class has one for each final field. */
-    private static final int MOST_FINAL = 16;
+    public static final int MOST_FINAL = 16;
 
     private final Program program;
     private final Collection<Method> methods;
@@ -44,10 +44,14 @@ public final class Limits {
         this.methods = methods;
     }
 
-    /** Keeps the limits in all methods and classes. */
+    /** Keeps the limits in all methods and classes. Of the object with all statics each text keeps them for itself. */
     public void run() {
         methods.forEach(method -> method.body(flat(method.body(), 0)));
+        if (finals(program.statics()) > MOST_FINAL) {
+            dropIdleStatics();
+        }
         List<Shape> shapes = new ArrayList<>(program.shapes());
+        shapes.remove(program.statics());
         shapes.sort(Comparator.comparingInt(Limits::height));
         shapes.forEach(this::merge);
         shapes.forEach(this::forget);
@@ -55,6 +59,32 @@ public final class Limits {
             methods.forEach(method -> unguard(method.body()));
             methods.forEach(this::forget);
         }
+    }
+
+    /** Where many classes have statics, those of their names go that no lock has, since nothing hangs on them. */
+    private void dropIdleStatics() {
+        Set<Field> locks = new HashSet<>();
+        methods.forEach(method -> {
+            method.required().forEach(path -> locks.addAll(path.fields()));
+            locks(method.body(), locks);
+        });
+        List<Field> idle = program.statics().fields().stream().filter(each -> each.used() && !locks.contains(each)).toList();
+        idle.forEach(Field::forget);
+        Set<Field> lost = Set.copyOf(idle);
+        methods.forEach(method -> method.body(new Forgetting(path -> path.fields().stream().anyMatch(lost::contains))
+            .part(method.body())));
+    }
+
+    /** The fields in the names of locks: those that are taken, those that guard what is touched, and second names of such. */
+    private static void locks(Part part, Set<Field> found) {
+        boolean guarded = part instanceof Part.Access access && access.field().guard() != null;
+        if (guarded || part instanceof Part.Region || part instanceof Part.Local) {
+            Forgetting.paths(part).forEach(path -> found.addAll(path.fields()));
+        }
+        if (guarded) {
+            found.addAll(((Part.Access) part).field().guard().lock());
+        }
+        part.parts().forEach(each -> locks(each, found));
     }
 
     private static int height(Shape shape) {

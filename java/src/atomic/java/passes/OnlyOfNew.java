@@ -19,6 +19,7 @@ public final class OnlyOfNew {
     private final Map<Method, Method> forNew;
     private final Map<Method, Integer> calls = new HashMap<>();
     private final Callees callees;
+    private final Deque<Method> waiting = new ArrayDeque<>();
 
     /** All methods of a skeleton; {@code forNew} has, of those that are called on new objects too, the method for these. */
     public OnlyOfNew(Collection<Method> all, Map<Method, Method> forNew) {
@@ -30,13 +31,11 @@ public final class OnlyOfNew {
     /** The methods that nobody calls, where those for new objects are called. */
     public Set<Method> find() {
         Set<Method> found = new LinkedHashSet<>();
-        Deque<Method> next = new ArrayDeque<>(forNew.keySet());
-        while (!next.isEmpty()) {
-            Method each = next.remove();
+        waiting.addAll(forNew.keySet());
+        while (!waiting.isEmpty()) {
+            Method each = waiting.remove();
             if (isUnused(each) && found.add(each)) {
                 count(each, each.body(), -1);
-                forNew.keySet().stream().filter(other -> !found.contains(other) && calls.getOrDefault(other, 0) == 0)
-                    .forEach(next::add);
             }
         }
         return found;
@@ -47,10 +46,11 @@ public final class OnlyOfNew {
             && !method.atomic() && method.overridden().isEmpty() && callees.of(method).size() == 1;
     }
 
-    /** Counts the calls in a method, but for those of itself. */
+    /** Counts the calls in a method, but for those of itself. One that is called no more may be unused now. */
     private void count(Method method, Part part, int by) {
-        if (part instanceof Part.Call call && call.target() != method) {
-            calls.merge(call.target(), by, Integer::sum);
+        if (part instanceof Part.Call call && call.target() != method && calls.merge(call.target(), by, Integer::sum) == 0
+                && forNew.containsKey(call.target())) {
+            waiting.add(call.target());
         }
         part.parts().forEach(each -> count(method, each, by));
     }

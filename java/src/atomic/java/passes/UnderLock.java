@@ -45,15 +45,19 @@ final class UnderLock {
                 }
             }
         }
-        part.parts().forEach(each -> findEver(each, held || part instanceof Part.Region));
+        part.parts().forEach(each -> findEver(each, held || isLocked(part)));
     }
 
     /** What is called here outside of regions isn't always called under a lock, nor is what that calls. */
     private void dropUnlocked(Part part) {
         if (part instanceof Part.Call call && freeAt.add(call.target())) {
             callees.of(call.target()).stream().filter(always::remove).filter(each -> !isAlways(each)).forEach(waiting::add);
-        } else if (!(part instanceof Part.Region)) {
+        } else if (!isLocked(part)) {
             part.parts().forEach(this::dropUnlocked);
         }
+    }
+
+    private static boolean isLocked(Part part) {
+        return part instanceof Part.Region region && region.mode() != Part.Mode.NONE;
     }
 }

@@ -23,6 +23,7 @@ public final class Writer {
     private final TreeMap<Integer, Method> lines = new TreeMap<>();
     private final Shape library;
     private Frame frame;
+    private Aliases aliases;
 
     /** A writer whose helper methods stand in the class {@code library}. */
     public Writer(Names names, Shape library) {
@@ -30,9 +31,10 @@ public final class Writer {
         this.library = library;
     }
 
-    /** Without indentation, if so asked, in which a long text has a quarter of its bytes. */
-    public Writer flat(boolean flat) {
-        text.flat(flat);
+    /** With short names and without indentation, which are most of a long text's bytes. */
+    public Writer brief(Aliases shortNames) {
+        aliases = shortNames;
+        text.flat(true);
         return this;
     }
 
@@ -69,7 +71,7 @@ public final class Writer {
 
     /** The lines of the class of helpers that give objects without a name. */
     public List<String> somes() {
-        return somes.entrySet().stream().map(each -> each.getValue().name() + " " + each.getKey()
+        return somes.entrySet().stream().map(each -> name(each.getValue().name()) + " " + name(each.getKey())
             + "() { return null; }").toList();
     }
 
@@ -85,8 +87,8 @@ public final class Writer {
     }
 
     private void shape(Shape shape, Set<Method> wanted) {
-        String parent = shape.parent() == null ? "" : " extends " + shape.parent().name();
-        text.begin().put("class ").mark(shape.place()).open(shape.name() + parent);
+        String parent = shape.parent() == null ? "" : " extends " + name(shape.parent().name());
+        text.begin().put("class ").mark(shape.place()).open(name(shape.name()) + parent);
         List<Field> own = shape.fields().stream().filter(this::isWritten).toList();
         own.forEach(this::field);
         constructor(shape);
@@ -99,10 +101,10 @@ public final class Writer {
 
     private void field(Field field) {
         text.begin().put(field.fixed() ? "final " : "").put(type(field.type())).put(" ").mark(field.place());
-        text.put(field.name());
+        text.put(name(field.name()));
         if (field.guard() != null) {
             text.put(field.guard().writesOnly() ? " write_guarded_by this" : " guarded_by this");
-            field.guard().lock().forEach(step -> text.put("." + step.name()));
+            field.guard().lock().forEach(step -> text.put("." + name(step.name())));
         }
         text.line(";");
     }
@@ -110,10 +112,10 @@ public final class Writer {
     private void constructor(Shape shape) {
         List<Field> fixed = fixed(shape);
         if (!fixed.isEmpty()) {
-            String parameters = fixed.stream().map(field -> type(field.type()) + " " + field.name())
+            String parameters = fixed.stream().map(field -> type(field.type()) + " " + name(field.name()))
                 .collect(Collectors.joining(", "));
-            text.begin().open(shape.name() + "(" + parameters + ")");
-            fixed.forEach(field -> text.begin().line("this." + field.name() + " = " + field.name() + ";"));
+            text.begin().open(name(shape.name()) + "(" + parameters + ")");
+            fixed.forEach(field -> text.begin().line("this." + name(field.name()) + " = " + name(field.name()) + ";"));
             text.close("");
         }
     }
@@ -131,17 +133,18 @@ public final class Writer {
 
     private void method(Method method) {
         lines.put(text.lines(), method);
-        text.begin().put(method.atomic() ? "atomic " : "").put("void ").mark(method.place()).put(method.name()).put("(");
-        text.put(method.parameters().stream().map(each -> "final " + type(each.type()) + " " + each.name())
+        text.begin().put(method.atomic() ? "atomic " : "").put("void ").mark(method.place());
+        text.put(name(method.name())).put("(");
+        text.put(method.parameters().stream().map(each -> "final " + type(each.type()) + " " + name(each.name()))
             .collect(Collectors.joining(", ")));
         text.put(")");
         String separator = " requires ";
         for (Path lock : method.required().stream().sorted(java.util.Comparator.comparing(Path::text)).toList()) {
-            text.put(separator).put(lock.text());
+            text.put(separator).put(path(lock));
             separator = ", ";
         }
         text.open("");
-        method.loose().forEach(each -> text.begin().line(type(each.type()) + " " + each.name() + " = null;"));
+        method.loose().forEach(each -> text.begin().line(type(each.type()) + " " + name(each.name()) + " = null;"));
         part(method.body());
         text.close("");
     }
@@ -162,8 +165,9 @@ public final class Writer {
         } else if (part instanceof Part.Call call) {
             call(call);
         } else if (part instanceof Part.Local local) {
-            String value = local.value() == null ? "null" : local.value().text();
-            text.begin().line("final " + type(local.variable().type()) + " " + local.variable().name() + " = " + value + ";");
+            String value = local.value() == null ? "null" : path(local.value());
+            text.begin().line("final " + type(local.variable().type()) + " " + name(local.variable().name()) + " = " + value
+                + ";");
         }
     }
 
@@ -179,9 +183,9 @@ public final class Writer {
     }
 
     private void region(Part.Region region) {
-        String lock = region.lock() == null ? names.invent("lock", "a lock without a name") : region.lock().text();
+        String lock = region.lock() == null ? name(names.invent("lock", "a lock without a name")) : path(region.lock());
         if (region.lock() == null) {
-            text.begin().line("final Object " + lock + " = null;");
+            text.begin().line("final " + name("Object") + " " + lock + " = null;");
         }
         text.begin().mark(region.place()).open("synchronized (" + lock + ")");
         part(region.body());
@@ -201,18 +205,18 @@ public final class Writer {
         if (access.write()) {
             text.begin().mark(access.place());
             object(access.receiver());
-            text.put(".").mark(access.place()).put(access.field().name()).line(" = " + nothing + ";");
+            text.put(".").mark(access.place()).put(name(access.field().name())).line(" = " + nothing + ";");
         } else {
             text.begin().put("if (");
             object(access.receiver());
-            text.put(".").mark(access.place()).put(access.field().name()).line(" == " + nothing + ") { }");
+            text.put(".").mark(access.place()).put(name(access.field().name())).line(" == " + nothing + ") { }");
         }
     }
 
     private void call(Part.Call call) {
         text.begin().mark(call.place());
         object(call.receiver());
-        text.put(".").mark(call.place()).put(call.target().name()).put("(");
+        text.put(".").mark(call.place()).put(name(call.target().name())).put("(");
         String separator = "";
         for (int k = 0; k < call.target().parameters().size(); k++) {
             text.put(separator);
@@ -225,7 +229,7 @@ public final class Writer {
     private void argument(Path.Root parameter, Value value) {
         Path path = value == null ? null : value.path();
         if (path != null && path.type() != null && path.type().fits(parameter.type())) {
-            text.put(path.text());
+            text.put(path(path));
         } else {
             text.put(parameter.type() == null ? "0" : "null");
         }
@@ -233,24 +237,34 @@ public final class Writer {
 
     private void object(Value value) {
         if (value instanceof Value.Named named) {
-            text.put(named.path().text());
+            text.put(path(named.path()));
         } else if (value instanceof Value.Loose loose) {
-            text.put(loose.variable().name());
+            text.put(name(loose.variable().name()));
         } else if (value instanceof Value.Through through) {
             object(through.receiver());
-            text.put(".").put(through.field().name());
+            text.put(".").put(name(through.field().name()));
         } else if (value instanceof Value.Node node) {
             object(node.container());
         } else if (value.type() == library) {
-            text.put("new Library()");
+            text.put("new " + name(library.name()) + "()");
         } else {
             String some = "some_" + value.type().name();
             somes.put(some, value.type());
-            text.put("new Library()." + some + "()");
+            text.put("new " + name(library.name()) + "()." + name(some) + "()");
         }
     }
 
-    private static String type(Shape type) {
-        return type == null ? "int" : type.name();
+    private String path(Path path) {
+        StringBuilder steps = new StringBuilder(path.root().kind() == Path.Kind.THIS ? "this" : name(path.root().name()));
+        path.fields().forEach(field -> steps.append('.').append(name(field.name())));
+        return steps.toString();
+    }
+
+    private String type(Shape type) {
+        return type == null ? "int" : name(type.name());
+    }
+
+    private String name(String name) {
+        return aliases == null ? name : aliases.of(name);
     }
 }

@@ -34,6 +34,7 @@ public final class Families {
     private final Map<String, String> spellings = new HashMap<>();
     private final Map<String, Integer> numbers = new HashMap<>();
     private final Set<JavaClass> extended = new HashSet<>();
+    private final Map<TypeElement, Boolean> values = new HashMap<>();
 
     public Families(Program program) {
         this.program = program;
@@ -172,9 +173,12 @@ public final class Families {
         }
         JavaClass known = program.find(erased);
         TypeElement symbol = (TypeElement) ((DeclaredType) erased).asElement();
-        boolean value = VALUES.contains(symbol.getQualifiedName().toString()) || symbol.getAnnotationMirrors().stream()
+        return known != null ? known.shape() : values.computeIfAbsent(symbol, Families::isValue) ? null : program.object();
+    }
+
+    private static boolean isValue(TypeElement symbol) {
+        return VALUES.contains(symbol.getQualifiedName().toString()) || symbol.getAnnotationMirrors().stream()
             .anyMatch(each -> each.getAnnotationType().toString().equals("java.lang.FunctionalInterface"));
-        return known != null ? known.shape() : value ? null : program.object();
     }
 
     /** Whether a static member belongs to the class alone. */

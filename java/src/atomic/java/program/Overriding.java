@@ -60,8 +60,13 @@ public final class Overriding {
         return above(one.symbol()).contains(other);
     }
 
+    /** Whether a class of the sources is this one, or below it. */
+    public boolean isAtHand(Element symbol) {
+        return above.containsKey(symbol);
+    }
+
     /** A class and all below it, in the order of the sources. */
-    List<JavaClass> below(JavaClass each) {
+    public List<JavaClass> below(JavaClass each) {
         return below.getOrDefault(each, List.of());
     }
 
@@ -71,7 +76,7 @@ public final class Overriding {
     }
 
     /** A class, and all above and below it, in the order of the sources. */
-    List<JavaClass> kin(JavaClass each) {
+    public List<JavaClass> kin(JavaClass each) {
         return Stream.concat(above(each.symbol()).stream(), below(each).stream()).distinct()
             .sorted(Comparator.comparing(numbers::get)).toList();
     }

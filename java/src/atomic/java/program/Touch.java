@@ -51,9 +51,14 @@ public record Touch(Object object, Kind kind, String asked) {
             return this == ADD || this == MAKE;
         }
 
+        /** Whether it changes something only if nobody came in between. */
+        public boolean tries() {
+            return this == COMPARE || this == RETRY || this == DRAW;
+        }
+
         /** Whether it changes one thing at one moment, however many steps it counts as. */
         public boolean changesOnce() {
-            return adds() || this == UPDATE || this == COMPARE || this == RETRY || this == DRAW;
+            return adds() || tries() || this == UPDATE;
         }
     }
 }

@@ -18,8 +18,11 @@ public sealed interface Part {
     /** A part any number of times. */
     record Repeat(Part body, Place place) implements Part { }
 
-    /** How the lock of a region is taken: by one thread alone, or by any number of readers. */
-    enum Mode { EXCLUSIVE, SHARED }
+    /**
+     * How the lock of a region is taken: by one thread alone, or by any number of readers; or there is none, and what is in
+     * front of the region may as well be done at any later time, as a lock may be taken earlier.
+     */
+    enum Mode { EXCLUSIVE, SHARED, NONE }
 
     /** A part while a lock is held; without a lock's name it is a lock that guards nothing. */
     record Region(Path lock, Mode mode, Part body, Place place) implements Part { }
