@@ -171,7 +171,7 @@ class Compiler:
 
     # Terms, as Python.
 
-    def reference(self, what: Meaning) -> str:
+    def reference(self, what: Meaning, env: Names) -> str:
         if what[0] == "constructor":
             return self.constant((what[1],))
         if what[0] == "value":
@@ -186,7 +186,7 @@ class Compiler:
         world = self.world
         name = self.fresh("d")
         self.scope[name] = lambda *arguments: world.call(file, definition, arguments)
-        return f"{name}({', '.join('MODULE_' + own for own in shared)})"
+        return f"{name}({', '.join(env[own] for own in shared)})"
 
     def expression(self, term: Term, env: Names, at: int) -> str:
         if term[0] not in EXPRESSIONS:
@@ -196,10 +196,7 @@ class Compiler:
     def name(self, term: Term, env: Names, at: int) -> str:
         if term[1] in env:
             return env[term[1]]
-        text = self.reference(self.world.lookup(self.file, term[1]))
-        for own in self.module_names():
-            text = text.replace(f"MODULE_{own}", env[own])
-        return text
+        return self.reference(self.world.lookup(self.file, term[1]), env)
 
     def number(self, term: Term, env: Names, at: int) -> str:
         return str(term[1])
@@ -253,7 +250,7 @@ class Compiler:
     def field(self, term: Term, env: Names, at: int) -> str:
         base = term[1]
         if base[0] == "name" and base[1] not in env and base[1] in self.file.aliases:
-            return self.reference(self.world.outside(self.file.aliases[base[1]], term[2]))
+            return self.reference(self.world.outside(self.file.aliases[base[1]], term[2]), env)
         return f"field({self.expression(base, env, at)}, {term[2]!r})"
 
 

@@ -9,7 +9,10 @@ seconds than --seconds is stopped.
 The families: classes in a folder; methods, fields and locks of one class; chains of private methods, with a lock at
 their beginning or their end; classes in a line, each of which calls the method above it; classes with one method's
 name; a class in one line; long regions; loops in loops that a branch leaves; one object under many names; stages of a
-stream; chained calls; functions in functions; helpers that are given functions; nested classes; static fields.
+stream; chained calls; functions in functions; helpers that are given functions; nested classes; static fields; methods
+that call each other in circles; callers of one method; classes of nodes that lead to each other; cases of a switch;
+branches in a row; terms of a sum; overloads; tasks; anonymous classes; classes that override one method; returns;
+tries; regions; locals that each lead on from the one before; elements of an array; constants with bodies; initialisers.
 """
 import argparse
 import resource
@@ -172,11 +175,145 @@ def statics(n: int) -> str:
     )
 
 
+def mutual(n: int) -> str:
+    return one(
+        rows(
+            n,
+            lambda k: f"public synchronized int m{k}(int x) {{ {'v += x; ' * 20}"
+            f"return x > {k} ? m{(k + 1) % n}(x) : m{(k * 7 + 3) % n}(v); }}",
+        )
+    )
+
+
+def callers(n: int) -> str:
+    return one(
+        "private int h(int x) { v += x; return v; }\n"
+        + rows(n, lambda k: f"public synchronized int m{k}(int x) {{ return h(x) + h({k}); }}")
+    )
+
+
+def linked(n: int) -> str:
+    return one(
+        rows(n, lambda k: f"private static class N{k} {{ int v; N{(k + 1) % n} next; }}")
+        + "private N0 first;\n"
+        + f"public N{n - 1} out() {{ return new N{n - 1}(); }}\n"
+        + rows(n, lambda k: f"public synchronized int m{k}(N{k} x) {{ return x.next.v++; }}")
+    )
+
+
+def cases(n: int) -> str:
+    return one(
+        "public synchronized void m(int x) { switch (x) {\n"
+        + rows(n, lambda k: f"case {k}: v += {k}; {'break;' if k % 2 else ''}")
+        + "default: v = 0; } }\npublic synchronized int g(int x) { return switch (x) {\n"
+        + rows(n, lambda k: f"case {k} -> v + {k};")
+        + "default -> 0; }; }\n"
+    )
+
+
+def branches(n: int) -> str:
+    return one(
+        "public synchronized void m(int x) {\n"
+        + rows(n, lambda k: f"if (x == {k}) {{ v += {k}; }} else")
+        + "{ v = 0; } }\n"
+    )
+
+
+def sums(n: int) -> str:
+    return one("public synchronized int m() { return v\n" + rows(n, lambda k: f"+ v * {k}") + "; }\n")
+
+
+def overloads(n: int) -> str:
+    return rows(n, lambda k: f"class T{k} {{ }}") + one(
+        rows(n, lambda k: f"synchronized int m(T{k} x) {{ return v++; }}")
+        + rows(n // 10, lambda k: f"public synchronized int n{k}() {{ return m(new T{k}()); }}")
+    )
+
+
+def lambdas(n: int) -> str:
+    return one(
+        "public void m(java.util.concurrent.Executor e) {\n"
+        + rows(n, lambda k: f"e.execute(() -> {{ synchronized (this) {{ v += {k}; }} }});")
+        + "}\n"
+    )
+
+
+def anonymous(n: int) -> str:
+    return one(
+        rows(
+            n,
+            lambda k: f"public Runnable m{k}() {{ return new Runnable() {{ int w; public void run() {{ "
+            f"synchronized (A.this) {{ v += {k}; w++; }} }} }}; }}",
+        )
+    )
+
+
+def overriding(n: int) -> str:
+    return "abstract class B { abstract int m(int x); }\n" + rows(
+        n,
+        lambda k: f"class B{k} extends B {{ private int w; synchronized int m(int x) {{ return w += x; }} "
+        f"public int twice(B b) {{ return b.m(1) + b.m({k}); }} }}",
+    )
+
+
+def returns(n: int) -> str:
+    return one(
+        "public synchronized int m(int x) {\n"
+        + rows(n, lambda k: f"if (x == {k}) return v + {k};")
+        + "return v; }\n"
+    )
+
+
+def tries(n: int) -> str:
+    return one(
+        "public synchronized void m(int x) {\n"
+        + rows(n, lambda k: f"try {{ v += {k}; all.add(x); }} catch (RuntimeException e) {{ v = {k}; }}")
+        + "}\n"
+    )
+
+
+def regions(n: int) -> str:
+    return one(
+        "public void m(int x) {\n" + rows(n, lambda k: f"synchronized (this) {{ v += {k}; }}") + "}\n"
+    )
+
+
+def hops(n: int) -> str:
+    return one(
+        "public synchronized void m(A x) {\n"
+        + rows(n, lambda k: f"A a{k} = {f'a{k - 1}' if k else 'x'}.next; a{k}.v++;")
+        + "}\n"
+    )
+
+
+def elements(n: int) -> str:
+    return one(
+        "private final int[] some = new int[9]; public synchronized void m(int x) {\n"
+        + rows(n, lambda k: f"some[{k % 9}] += some[x];")
+        + "}\n"
+    )
+
+
+def constants(n: int) -> str:
+    return "enum A {\n" + ",\n".join(
+        f"X{k} {{ int m() {{ return v + {k}; }} }}" for k in range(n)
+    ) + ";\nint v; abstract int m(); }\n"
+
+
+def starts(n: int) -> str:
+    return one(
+        rows(n, lambda k: f"static final java.util.List<String> S{k} = make({k});")
+        + "static java.util.List<String> make(int x) { return new java.util.ArrayList<>(); }\n"
+        + rows(n, lambda k: f"public synchronized int m{k}() {{ return S{k}.size() + v; }}")
+    )
+
+
 FAMILIES: dict[str, Family] = {
     each.__name__: each
     for each in (
         folder, methods, fields, locks, chain, chain_up, heirs, named, line, region, loops, aliases, stages, builder,
-        functions, helpers, nested, statics,
+        functions, helpers, nested, statics, mutual, callers, linked, cases, branches, sums, overloads, lambdas,
+        anonymous, overriding, returns, tries, regions, hops, elements, constants, starts,
     )
 }  # fmt: skip
 

@@ -59,6 +59,12 @@ def run(options: list[str], files: list[Path], program: Path = PROGRAM) -> Answe
     return Answer(done.returncode, lines, rest)
 
 
+def java_version() -> int:
+    """Which Java javac is of."""
+    told = subprocess.run(["javac", "-version"], capture_output=True, check=True)
+    return int((told.stdout + told.stderr).decode().split()[1].split(".")[0])
+
+
 def marks(text: str) -> dict[int, tuple[str, str]]:
     """The marks of a source by their lines: `refused` or `accepted`, and what stands behind the colon."""
     found = ((number, MARK.search(line)) for number, line in enumerate(text.splitlines(), 1))

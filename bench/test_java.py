@@ -10,7 +10,8 @@ mutants      these, each time without one lock, guard or @Holding: each is told,
 reasons      each reason for which an error is told as certain, and what looks like it and is none (java/tests/reasons)
 summaries    sources whose first line has the line of figures that comes (java/tests/summaries)
 pieces       a source whose skeleton is too long for one text
-own          the sources of atomic-java itself: some 15 texts, and few methods past a limit
+own          the sources of atomic-java itself: no method is past a limit of the checker
+inputs       no source, or no good one, and answers that can't be written (java_inputs.py): one clear line, its status
 growth       families of sources (java_families.py), each at a size and at four times that: the time grows with the size
 
 The exit status is 0 where all hold. Without a name all are tried.
@@ -23,14 +24,15 @@ from dataclasses import dataclass, field
 from pathlib import Path
 
 from java_families import FAMILIES, seconds
+from java_inputs import INPUTS, all_wrong
 from java_mutants import Mutant, mutants
-from java_sources import PROGRAM, TOP, Answer, Line, batches, marks, run, write_into_package
+from java_sources import PROGRAM, TOP, Answer, Line, batches, java_version, marks, run, write_into_package
 
 TESTS = TOP / "java" / "tests"
 OPTIONS = re.compile(r"^// judged with: (.*)$", re.MULTILINE)
+SINCE = re.compile(r"^// since: (\d+)$", re.MULTILINE)
 RACE = "data race"
 DOUBT = "this may be a wrong alarm"
-FEW_LIMITS = 10
 GROWTH = {"chain": 600, "named": 500, "region": 600, "loops": 20}
 TIMES = 4
 MOST_TIMES = 7
@@ -78,10 +80,15 @@ class Tester:
 
     def adversaries(self) -> None:
         """Each adversary in a package of its own, many in one run with the same options; those that patch a module
-        belong to java.util."""
+        belong to java.util. One for a later Java than this is left out."""
         groups: dict[str, list[Path]] = {}
+        version = java_version()
         for path in sorted((TESTS / "adversaries").glob("*.java")):
-            found = OPTIONS.search(path.read_text(encoding="utf-8"))
+            text = path.read_text(encoding="utf-8")
+            since, found = SINCE.search(text), OPTIONS.search(text)
+            if since and int(since[1]) > version:
+                print(f"{path.name}: left out: it wants Java {since[1]}, and this is {version}")
+                continue
             groups.setdefault(found[1] if found else "", []).append(path)
         for options, batch in ((words.split(), part) for words, paths in groups.items() for part in batches(paths, 25)):
             texts = {path: path.read_text(encoding="utf-8") for path in batch}
@@ -159,12 +166,18 @@ class Tester:
             self.tell(f"{path.name}: {len(wanted)} errors wanted, {found}")
 
     def own(self) -> None:
-        """What the tool says of its own sources counts few methods as compound for a limit of the checker."""
+        """What the tool says of its own sources counts no method as compound for a limit of the checker."""
         answer = self.judged(["--public", "--infer"], [TOP / "java" / "src" / "atomic"])
         self.count += 1
-        limits = [line for line in answer.lines if "limit:" in line.text]
-        for line in limits if len(limits) > FEW_LIMITS else []:
-            self.tell(f"{line.file}:{line.line}: {line.text}")
+        for line in answer.lines:
+            if "limit:" in line.text:
+                self.tell(f"{line.file}:{line.line}: {line.text}")
+
+    def inputs(self) -> None:
+        """What isn't a good source, or an answer that can't be written, has its status and one clear line."""
+        self.count += len(INPUTS)
+        for line in all_wrong(self.folder / "inputs", self.program):
+            self.tell(line)
 
     def growth(self) -> None:
         """A source four times as long takes some four times as long. With the square of its length it takes sixteen
@@ -222,7 +235,7 @@ class Tester:
 
 def main() -> None:
     """Tries the tests that are named."""
-    names = ["adversaries", "users", "reasons", "larger", "summaries", "pieces", "own", "growth", "mutants"]
+    names = ["adversaries", "users", "reasons", "larger", "summaries", "pieces", "own", "inputs", "growth", "mutants"]
     parser = argparse.ArgumentParser(description=__doc__, formatter_class=argparse.RawDescriptionHelpFormatter)
     parser.add_argument("tests", nargs="*", metavar="TEST", help=f"what is tried: {', '.join(names)}")
     parser.add_argument("--program", type=Path, default=PROGRAM, help="the launcher (default: java/out/atomic-java)")

@@ -13,12 +13,22 @@ leaves      late, where half of the classes extend the last of the others, and c
 own         such classes, of which each locks a field of its own that the others don't know
 own_more    own, where each of these calls a method with seven relevant paths as well
 waves       such classes with the same locks, of which 40 come to be compound, each a pass after the one before
+own_waves   own_more, of which 40 come to be compound so
+masks       waves, where all of them call methods with other locks each
 empty       classes in a line, each of which overrides an empty method
 names       the same with three methods
 pairs       classes that inherit many methods, and override none
+finals      classes in a line, each of which assigns a final field of the first one
+fresh       classes in a line, each of which has a method with a name of its own
+wide        a class with many methods, and one that overrides them all
 line        classes in a line, each of which overrides a method with a lock
 sets_calls  methods that call each other, called at each part of eight locks
 sets_rise   methods that are called under more and more levels
+deep        classes in a line, where a loop calls the first one's method on an object of the last
+crowd       the same for objects of the last 60 classes and eight methods, called at eight places
+firsts      the same for an object of each class of the lower half
+
+The last three are run: `run`, `serialise`, `serialise-open` and `replay` get a schedule of 200,000 entries.
 """
 from __future__ import annotations
 
@@ -37,6 +47,12 @@ LIMIT = 262144
 MAIN = "class Main{void main(){}}\n"
 LAST = "class Last{int u;atomic void last(){this.u=1;this.u=2;}}\n"
 FIELDS = "abcdefg"
+MASKS = [names for size in range(1, 8) for names in itertools.combinations(FIELDS, size)]
+WAVES = 40
+HELD = "final L h;e{0}(L h){{this.h=h;}}void f(final X x){{synchronized(this.h){{}}{1}}}"
+LAST_RISING = f"class Last{{atomic void last(final X x){{x.s{WAVES - 1}();}}}}\n"
+RUN_COMMANDS = ["run", "serialise", "serialise-open", "replay"]
+SCHEDULE = b"0*200000\n"
 Family = Callable[[int], str]
 
 
@@ -54,11 +70,22 @@ def heirs(count: int, body: Callable[[int], str]) -> list[str]:
     return [f"class c{k}{f' extends c{k - 1}' if k else ''}{{{body(k)}}}\n" for k in range(count)]
 
 
-def broom(count: int, bodies: list[str]) -> str:
-    """So many classes in a line, and one for each of these bodies that extends the last of them."""
+def own_broom(count: int, bodies: list[str]) -> str:
+    """So many classes in a line, and one with each of these bodies that extends the last of them."""
     line = heirs(count, lambda k: "void f(final X x){}")
-    ends = [f"class e{k} extends c{count - 1}{{void f(final X x){{{body}}}}}\n" for k, body in enumerate(bodies)]
+    ends = [f"class e{k} extends c{count - 1}{{{body}}}\n" for k, body in enumerate(bodies)]
     return "".join(line + ends)
+
+
+def broom(count: int, bodies: list[str]) -> str:
+    """The same, where each overrides the method with one of these bodies."""
+    return own_broom(count, [f"void f(final X x){{{body}}}" for body in bodies])
+
+
+def rising_methods() -> str:
+    """Methods that come to be compound one after the other, each a pass after the one before."""
+    bodies = ["this.u=1;this.u=2;"] + [f"this.s{k}();" for k in range(WAVES - 1)]
+    return "int u;" + "".join(f"void s{k}(){{{body}}}" for k, body in reversed(list(enumerate(bodies))))
 
 
 def overriding(count: int) -> str:
@@ -91,32 +118,43 @@ def mixed(count: int) -> str:
     return called_last(FIELDS[:-1], {count // 2: "synchronized(x.g){}", count - 1: "x.g();"}, count)
 
 
+def mask_methods() -> str:
+    """A method for each choice of locks."""
+    bodies = ["".join(f"synchronized(this.{name}){{}}" for name in names) for names in MASKS]
+    return "".join(f"void g{k}(){{{body}}}" for k, body in enumerate(bodies))
+
+
+def mask_call(k: int) -> str:
+    return f"x.g{37 * k % len(MASKS)}();"
+
+
 def leaves(count: int) -> str:
-    some = [names for size in range(1, 8) for names in itertools.combinations(FIELDS, size)]
-    bodies = ["".join(f"synchronized(this.{name}){{}}" for name in names) for names in some]
-    methods = "".join(f"void g{k}(){{{body}}}" for k, body in enumerate(bodies))
-    calls = [f"x.g{37 * k % len(some)}();" for k in range(count - count // 2 - 1)] + ["x.g();"]
-    return MAIN + locked(methods=methods) + broom(count // 2, calls) + CALLER
+    calls = [mask_call(k) for k in range(count - count // 2 - 1)] + ["x.g();"]
+    return MAIN + locked(methods=mask_methods()) + broom(count // 2, calls) + CALLER
+
+
+def masks(count: int) -> str:
+    calls = [mask_call(k) + f"x.s{k}();" * (k < WAVES) for k in range(count - count // 2)]
+    return MAIN + locked(methods=mask_methods() + rising_methods()) + broom(count // 2, calls) + LAST_RISING
 
 
 def own(count: int, locks: str = FIELDS, more: str = "") -> str:
-    line = heirs(count // 2, lambda k: "void f(final X x){}")
-    held = "final L h;e{0}(L h){{this.h=h;}}void f(final X x){{synchronized(this.h){{}}{1}}}"
-    bodies = ["void f(final X x){x.g();}"] + [held.format(k, more) for k in range(1, count - count // 2)]
-    ends = [f"class e{k} extends c{count // 2 - 1}{{{body}}}\n" for k, body in enumerate(bodies)]
-    return MAIN + locked(locks) + "".join(line + ends) + CALLER
+    bodies = ["void f(final X x){x.g();}"] + [HELD.format(k, more) for k in range(1, count - count // 2)]
+    return MAIN + locked(locks) + own_broom(count // 2, bodies) + CALLER
 
 
 def own_more(count: int) -> str:
     return own(count, FIELDS[:-1], "x.g();")
 
 
+def own_waves(count: int) -> str:
+    bodies = [HELD.format(k, "x.g();" + f"x.s{k}();" * (k < WAVES)) for k in range(count - count // 2)]
+    return MAIN + locked(FIELDS[:-1], rising_methods()) + own_broom(count // 2, bodies) + LAST_RISING
+
+
 def waves(count: int) -> str:
-    bodies = ["this.u=1;this.u=2;"] + [f"this.s{k}();" for k in range(39)]
-    methods = "int u;" + "".join(f"void s{k}(){{{body}}}" for k, body in reversed(list(enumerate(bodies))))
-    calls = [f"x.g();x.s{k}();" if k < 40 else "x.g();" for k in range(count - count // 2)]
-    last = "class Last{atomic void last(final X x){x.s39();}}\n"
-    return MAIN + locked(methods=methods) + broom(count // 2, calls) + last
+    calls = ["x.g();" + f"x.s{k}();" * (k < WAVES) for k in range(count - count // 2)]
+    return MAIN + locked(methods=rising_methods()) + broom(count // 2, calls) + LAST_RISING
 
 
 def empty(count: int) -> str:
@@ -132,11 +170,53 @@ def pairs(count: int) -> str:
     return MAIN + f"class C{{{methods}}}\n" + "".join(f"class C{k} extends C{{}}\n" for k in range(count))
 
 
+def finals(count: int) -> str:
+    return MAIN + "".join(heirs(count, lambda k: "final int a;" * (k == 0) + f"c{k}(int a){{this.a=a;}}"))
+
+
+def fresh(count: int) -> str:
+    return MAIN + "".join(heirs(count, lambda k: f"void f{k}(){{}}"))
+
+
+def wide(count: int) -> str:
+    methods = "".join(f"void f{k}(){{}}" for k in range(count))
+    return MAIN + "".join(heirs(2, lambda k: methods))
+
+
 def line(count: int) -> str:
     rest = (make_checked.overriding(f"C{k}", f"C{k - 1}" if k else "C", k) for k in range(count))
     return MAIN + make_checked.FIRST + "".join(rest)
 
 
+def running(body: str, count: int, methods: str = "void f(){}", more: str = "") -> str:
+    """Classes in a line, the first of which has these methods, and a main method with this body."""
+    line = heirs(count, lambda k: methods * (k == 0))
+    return f"class Main{{{more}void main(){{{body}}}}}\n" + "".join(line)
+
+
+def deep(count: int) -> str:
+    return running(f"final c0 x=new c{count - 1}();while(true){{{'x.f();' * 20}}}", count)
+
+
+def at_eight_places(body: str, count: int) -> str:
+    methods = "".join(f"void f{k}(){{}}" for k in range(8))
+    calls = "".join(f"x.f{k}();" for k in range(8))
+    return running(body, count, methods, f"void all(final c0 x){{{calls}}}")
+
+
+def crowd(count: int) -> str:
+    some = range(max(0, count - 60), count)
+    made = "".join(f"final c{k} x{k}=new c{k}();" for k in some)
+    calls = "".join(f"this.all(x{k});" for k in some)
+    return at_eight_places(f"{made}while(true){{{calls}}}", count)
+
+
+def firsts(count: int) -> str:
+    calls = "".join(f"this.all(new c{k}());" for k in range(count // 2, count))
+    return at_eight_places(f"while(true){{{calls}}}", count)
+
+
+RUN_FAMILIES: dict[str, Family] = {"deep": deep, "crowd": crowd, "firsts": firsts}
 FAMILIES: dict[str, Family] = {
     "overriding": overriding,
     "reverse": reverse,
@@ -147,12 +227,18 @@ FAMILIES: dict[str, Family] = {
     "own": own,
     "own_more": own_more,
     "waves": waves,
+    "own_waves": own_waves,
+    "masks": masks,
     "empty": empty,
     "names": names,
     "pairs": pairs,
+    "finals": finals,
+    "fresh": fresh,
+    "wide": wide,
     "line": line,
     "sets_calls": make_checked.sets_calls,
     "sets_rise": make_checked.sets_rise,
+    **RUN_FAMILIES,
 }
 
 
@@ -230,6 +316,8 @@ def case(program: str, command: str, folder: str, text: str, seconds: int) -> Op
     if command == "levels":
         levels = levels_of(text).encode()
         return Case([program, command, source, put(folder, command, levels)], len(levels))
+    if command in RUN_COMMANDS:
+        return Case([program, command, source, put(folder, "schedule", SCHEDULE)], len(SCHEDULE))
     if command == "verify":
         return judging(program, "derive", command, source, seconds)
     if command == "verify-blame":
@@ -254,11 +342,17 @@ def row(program: str, command: str, family: str, text: str, seconds: int, before
 COMMANDS = ["check", "derive", "verify", "levels", "blame", "verify-blame"]
 
 
+def commands_of(family: str) -> list[str]:
+    """The commands that a family is made for."""
+    return RUN_COMMANDS if family in RUN_FAMILIES else COMMANDS
+
+
 def main() -> None:
     parser = words_of(__doc__)
     parser.add_argument("program", metavar="PROGRAM", type=program_of, help=PROGRAM)
     parser.add_argument("families", metavar="FAMILY", nargs="*", choices=[[], *FAMILIES], help="these alone")
-    parser.add_argument("--command", action="append", choices=COMMANDS, help="this command alone; may be given again")
+    every = COMMANDS + RUN_COMMANDS
+    parser.add_argument("--command", action="append", choices=every, help="this command alone; may be given again")
     parser.add_argument("--limit", type=count_of, default=LIMIT, help="the most bytes of a source")
     parser.add_argument("--parts", type=count_of, default=4, help="sizes from the limit down, each half the one before")
     parser.add_argument("--seconds", type=count_of, default=60, help="the most seconds of a run")
@@ -268,7 +362,7 @@ def main() -> None:
     print("|---|---|---|---|---|---|---|---|")
     for family in given.families or FAMILIES:
         sources = [text for size in sizes if (text := most(FAMILIES[family], size - len(LAST))) is not None]
-        for command in given.command or COMMANDS:
+        for command in given.command or commands_of(family):
             before = 0.0
             for text in sources:
                 before = row(given.program, command, family, text, given.seconds, before)

@@ -159,7 +159,7 @@ public class Shapes {
         public void add(String k, long n) { // refused: perhaps: an empty one is as good as none
             sums.computeIfAbsent(k, x -> new AtomicLong()).addAndGet(n);
         }
-        public long sum(String k) { AtomicLong a = sums.get(k); return a == null ? 0 : a.get(); } // refused: perhaps: what is found stays
+        public long sum(String k) { AtomicLong a = sums.get(k); return a == null ? 0 : a.get(); } // accepted
         public void addOld(String k, long n) { // refused: perhaps: put if absent, then the one that is there
             AtomicLong a = sums.get(k);
             if (a == null) {

@@ -92,17 +92,17 @@ public class Meters {
 
     public boolean drop(String gauge) { return gauges.remove(gauge) != null; } // accepted
 
-    public void alarm(Level level) { // refused: alarm: one synchronized block
+    public void alarm(Level level) { // accepted
         synchronized (alarms) { alarms.merge(level, 1L, Long::sum); }
     }
 
-    public boolean isHealthy() { // refused: alarm: one synchronized block, the helper with the stream runs under it
+    public boolean isHealthy() { // accepted
         synchronized (alarms) {
             return alarmsFrom(Level.WARNING) < 10 && alarmsFrom(Level.ERROR) == 0;
         }
     }
 
-    public Map<Level, Long> alarms() { return alarms; } // accepted: the call only reads a final field, but it leaks the guarded EnumMap: a client's read or iteration without the
+    public Map<Level, Long> alarms() { return alarms; } // refused: fault: it leaks the guarded EnumMap: a client's read or iteration without the
 
     public String banner() { return banner.get(); } // refused: alarm: one call of Lazy.get()
 

@@ -74,7 +74,7 @@ public final class LatencyMetrics {
         return out;
     }
 
-    public int tagCount(String name) { // refused: alarm: counters are never removed or replaced: null means 0 at the look-up, else the look-up is stable and the get is the one read
+    public int tagCount(String name) { // accepted
         AtomicInteger n = tags.get(name);
         return n == null ? 0 : n.get();
     }

@@ -48,21 +48,21 @@ public final class ResourcePool<R> implements AutoCloseable {
         try { return leaseOrNull(); } finally { lock.unlock(); }
     }
 
-    public void awaitQuiet() throws InterruptedException { // refused: alarm: behind its wait, no effect
+    public void awaitQuiet() throws InterruptedException { // accepted
         lock.lock();
         try { while (live > idle.size()) changed.await(); } finally { lock.unlock(); }
     }
 
-    public int idleCount() { return stats().idle(); } // refused: alarm: one call of stats(), rest is a local record
-    public int liveCount() { return stats().live(); } // refused: alarm: likewise
+    public int idleCount() { return stats().idle(); } // accepted
+    public int liveCount() { return stats().live(); } // accepted
     public double utilisation() { return (double) (liveCount() - idleCount()) / max; } // refused: fault: two critical sections
 
-    public Stats stats() { // refused: alarm: one piece under the lock
+    public Stats stats() { // accepted
         lock.lock();
         try { return new Stats(idle.size(), live, waiting); } finally { lock.unlock(); }
     }
 
-    public Collection<R> idleResources() { return Collections.unmodifiableCollection(idle); } // accepted: the call itself only reads a final field and wraps it, but it hands out a live view of the guarded deque: a cl
+    public Collection<R> idleResources() { return Collections.unmodifiableCollection(idle); } // refused: fault: it hands out a live view of the guarded deque: a cl
 
     /** Destroys idle resources until at most keep are left. */
     public void trim(int keep) { // refused: fault: check-then-act over two critical sections, many rounds
@@ -109,7 +109,7 @@ public final class ResourcePool<R> implements AutoCloseable {
 
         public R get() { return done ? null : resource; } // accepted
 
-        @Override public void close() { // refused: alarm: (hard: double check on a volatile), because `done == true` before the lock only leads to a return without effe
+        @Override public void close() { // accepted
             if (done) return;
             lock.lock();
             try {

@@ -63,15 +63,15 @@ public class AuditTrail {
         return reading(() -> lines.stream().filter(wanted).findFirst());
     }
 
-    public Optional<Line> last() { // refused: alarm: the expert sees no interruption
+    public Optional<Line> last() { // accepted
         return reading(() -> lines.isEmpty() ? Optional.empty() : Optional.of(lines.get(lines.size() - 1)));
     }
 
-    public List<Line> tail(int n) { // refused: alarm: the expert sees no interruption
+    public List<Line> tail(int n) { // accepted
         return reading(() -> List.copyOf(lines.subList(Math.max(0, lines.size() - n), lines.size())));
     }
 
-    public List<Line> view() { // accepted: hands out a live view of the internal list: a caller that walks it while another thread runs append gets ConcurrentModificationException (the call itself only makes the wrapper)
+    public List<Line> view() { // refused: fault: hands out a live view of the internal list: a caller that walks it while another thread runs append gets ConcurrentModificationException (the call itself only makes the wrapper)
         rw.readLock().lock();
         try {
             return Collections.unmodifiableList(lines);
@@ -80,7 +80,7 @@ public class AuditTrail {
         }
     }
 
-    public String render() { // refused: alarm: the expert sees no interruption
+    public String render() { // accepted
         return reading(() -> lines.stream().map(Line::format).collect(Collectors.joining("\n")));
     }
 
@@ -95,7 +95,7 @@ public class AuditTrail {
         return doomed.size();
     }
 
-    public int rotate(int keep) { // refused: alarm: the expert sees no interruption
+    public int rotate(int keep) { // accepted
         rw.writeLock().lock();
         try {
             int surplus = Math.max(0, lines.size() - keep);

@@ -91,11 +91,11 @@ public class TextLog {
         return buf.length();
     }
 
-    public List<String> tags() { // accepted
+    public List<String> tags() { // refused: alarm: it gives the list to its caller
         return tags;
     }
 
-    public synchronized void tag(String t) { // refused: alarm: synchronized
+    public synchronized void tag(String t) { // accepted
         if (!tags.contains(t)) tags.add(t);
     }
 

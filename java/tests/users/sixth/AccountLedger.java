@@ -31,7 +31,7 @@ public class AccountLedger {
     private final Map<String, Account> accounts = new HashMap<>();
     private final List<Entry> journal = new ArrayList<>();
 
-    public boolean open(String id, long initial) { // refused: alarm: it holds its lock, but journal() gives the list out
+    public boolean open(String id, long initial) { // accepted
         synchronized (lock) {
             if (accounts.containsKey(id)) {
                 return false;
@@ -42,7 +42,7 @@ public class AccountLedger {
         }
     }
 
-    public void deposit(String id, long amount) { // refused: alarm: it holds its lock, but journal() gives the list out
+    public void deposit(String id, long amount) { // accepted
         requirePositive(amount);
         synchronized (lock) {
             find(id).balance += amount;
@@ -50,7 +50,7 @@ public class AccountLedger {
         }
     }
 
-    public boolean withdraw(String id, long amount) { // refused: alarm: it holds its lock, but journal() gives the list out
+    public boolean withdraw(String id, long amount) { // accepted
         requirePositive(amount);
         synchronized (lock) {
             Account account = find(id);
@@ -71,7 +71,7 @@ public class AccountLedger {
         return true;
     }
 
-    public boolean move(String from, String to, long amount) { // refused: alarm: it holds its lock, but journal() gives the list out
+    public boolean move(String from, String to, long amount) { // accepted
         requirePositive(amount);
         synchronized (lock) {
             Account source = find(from);
@@ -113,7 +113,7 @@ public class AccountLedger {
         return result;
     }
 
-    public List<Entry> journal() { // accepted: the call only wraps a final field; that the list gets out is told as a note, and where it is changed
+    public List<Entry> journal() { // refused: fault: it gives out a view of the list, over which others walk without the lock
         synchronized (lock) {
             return Collections.unmodifiableList(journal);
         }

@@ -100,7 +100,7 @@ public class ChainTable<K, V> {
         return h + m == 0 ? 0f : (float) h / (h + m);
     }
 
-    public Iterator<K> keys() { return new KeyWalker(); } // accepted: the returned iterator walks the live chains without lock: it has passed bucket 0, another thread runs store(a) into bucket 0 and then store(b) into bucket 3, the walk gives b without a (the call itself only makes the iterator)
+    public Iterator<K> keys() { return new KeyWalker(); } // refused: fault: the returned iterator walks the live chains without lock: it has passed bucket 0, another thread runs store(a) into bucket 0 and then store(b) into bucket 3, the walk gives b without a (the call itself only makes the iterator)
 
     public synchronized List<K> keyList() { // refused: alarm: the expert sees no interruption
         List<K> list = new ArrayList<K>(size);

@@ -76,7 +76,7 @@ public class UndoableText {
 
     public long version() { return version; } // accepted
 
-    public Collection<Edit> edits() { return Collections.unmodifiableCollection(done); } // accepted: returns a live view of the guarded ArrayDeque: the caller iterates it without the lock while T2 edits, ConcurrentModificationException or a torn picture
+    public Collection<Edit> edits() { return Collections.unmodifiableCollection(done); } // refused: fault: returns a live view of the guarded ArrayDeque: the caller iterates it without the lock while T2 edits, ConcurrentModificationException or a torn picture
 
     private void commit(Edit edit) {
         apply(edit);

@@ -1,5 +1,6 @@
 package atomic.java.translation;
 
+import atomic.java.ownership.Escape;
 import atomic.java.ownership.Uses;
 import atomic.java.places.Notes;
 import atomic.java.program.Families;
@@ -17,6 +18,7 @@ import com.sun.source.tree.Tree;
 import javax.lang.model.element.Element;
 import javax.lang.model.element.Modifier;
 import javax.lang.model.element.VariableElement;
+import javax.lang.model.util.ElementFilter;
 
 /** Reads and writes of fields. */
 final class Accesses {
@@ -87,6 +89,7 @@ final class Accesses {
             Fields.Home contents = services.fields().contents(field);
             Value inside = holder(field, contents, receiver);
             Path own = settled && home.field().type() != null ? behind(holder, home.field()).path() : null;
+            services.exits().write(field, at, body);
             if (inside instanceof Value.Fresh) {
                 services.functions().compare(services.fields().comparing(contents.field()), body, at);
                 return new Value.Fresh(null);
@@ -112,10 +115,14 @@ final class Accesses {
      */
     private boolean isStable(VariableElement field, Tree at) {
         boolean kept = new Caches(services).keeps(field);
-        boolean once = kept || new StableLooks(services).isSetOnce(field);
+        boolean filled = new StableLooks(services).isTestOfFilled(field, at);
+        boolean once = kept || filled || new StableLooks(services).isSetOnce(field);
         if (kept) {
             services.hint(at, "cache: what " + field.getSimpleName() + " keeps is computed from final fields alone, so that each"
                 + " thread computes the same; each counts as a step all the same");
+        } else if (filled) {
+            services.hint(at, "stable look: " + field.getSimpleName() + " never becomes empty again, so that a value which a look"
+                + " has found is there later too; each counts as a step all the same");
         } else if (once) {
             services.hint(at, "stable look: " + field.getSimpleName() + " is set once, so that what a look has found stays so,"
                 + " and its setting may show nowhere; each counts as a step all the same");
@@ -238,7 +245,9 @@ final class Accesses {
             return result;
         }
         if (!(services.attribution().element(target) instanceof VariableElement variable) || !variable.getKind().isField()) {
-            return expressions.value(value);
+            Value result = expressions.value(value);
+            new Locals(services, body).assign(services.attribution().element(target), result);
+            return result;
         }
         Value receiver = target instanceof MemberSelectTree select ? receiver(select, variable, expressions)
             : implicit(variable, services.attribution().start(target));
@@ -247,7 +256,27 @@ final class Accesses {
         }
         Value result = expressions.value(value);
         start(variable, target);
-        write(variable, receiver, target);
+        // What is assigned may let the object go, and is computed before.
+        boolean begins = receiver instanceof Value.Fresh && isOwn(target) && value != null;
+        write(variable, begins ? implicit(variable, services.attribution().end(value)) : receiver, target);
         return result;
+    }
+
+    /** Writes a field before its class's constructors run, where others may know the object by then. */
+    void begin(VariableElement field, Tree at) {
+        JavaClass owner = services.program().find(field.getEnclosingElement());
+        if (!Families.isStatic(field) && !services.fields().isSettled(field)
+                && services.ownership().escape().selves().isKnownBefore(at, at, owner)) {
+            write(field, implicit(field, Escape.NEVER), at);
+        }
+    }
+
+    /** The parts of a record that its constructor sets at the end, where others may know it by then. */
+    void parts(JavaClass record) {
+        for (VariableElement field : ElementFilter.fieldsIn(record.symbol().getEnclosedElements())) {
+            if (!Families.isStatic(field) && !services.fields().isSettled(field)) {
+                write(field, implicit(field, Escape.NEVER), record.tree());
+            }
+        }
     }
 }

@@ -30,6 +30,10 @@ record Caches(Services services) {
 
     /** Whether a field is such a one, of the class's own. */
     boolean keeps(VariableElement field) {
+        return services.facts().of(field, "a cache", this::isKept);
+    }
+
+    private boolean isKept(VariableElement field) {
         if (!services.stable().isHidden(field)) {
             return false;
         }

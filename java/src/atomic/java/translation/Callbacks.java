@@ -11,9 +11,11 @@ import com.sun.source.tree.ExpressionTree;
 import com.sun.source.tree.MemberSelectTree;
 import com.sun.source.tree.MethodInvocationTree;
 import com.sun.source.tree.NewClassTree;
+import com.sun.source.tree.Tree;
 import com.sun.source.tree.TypeCastTree;
 import java.util.ArrayList;
 import java.util.List;
+import java.util.Set;
 import javax.lang.model.element.Element;
 import javax.lang.model.element.ExecutableElement;
 import javax.lang.model.element.Modifier;
@@ -30,6 +32,10 @@ import javax.lang.model.type.TypeMirror;
  * call only keeps is called by others.
  */
 final class Callbacks {
+    /** Library classes whose texts and comparisons are made of what their other methods give. */
+    private static final Set<String> MAKING = Set.of("java.util.AbstractCollection", "java.util.AbstractList",
+        "java.util.AbstractSet", "java.util.AbstractMap");
+
     private final Services services;
     private final Body body;
 
@@ -51,6 +57,7 @@ final class Callbacks {
         }
         compared(called, symbol);
         inPlace(called, symbol);
+        wrapped(called, symbol);
         if (called.choice().keeps() || called.choice().elsewhere()) {
             return;
         }
@@ -58,10 +65,22 @@ final class Callbacks {
         for (int k = 0; k < called.arguments().size(); k++) {
             TypeMirror type = services.attribution().type(written(called.arguments().get(k)));
             JavaClass known = type == null ? null : services.program().find(type);
-            TypeElement wanted = known == null ? null : parameter(symbol, k);
+            TypeElement wanted = known == null ? null : parameter(services, symbol, k);
             if (wanted != null && services.program().find(wanted) == null) {
                 emit(known, wanted, written(called.arguments().get(k)), called);
             }
+        }
+    }
+
+    /** The object whose method is called may hand the call on to one of the sources that it keeps: that isn't sure. */
+    private void wrapped(LibraryCalls.Called called, ExecutableElement symbol) {
+        if (services.program().sure() || symbol.getModifiers().contains(Modifier.STATIC)) {
+            return;
+        }
+        for (Wrappers.Wrapping each : services.wrappers().within(called)) {
+            services.hint(called.at(), "object of the sources: " + called.shown() + " may call methods of "
+                + each.inner().symbol().getSimpleName() + ", of which such an object is made");
+            emit(each.inner(), each.wanted(), Value.OPAQUE, called.at());
         }
     }
 
@@ -69,7 +88,7 @@ final class Callbacks {
     private void compared(LibraryCalls.Called called, ExecutableElement symbol) {
         boolean later = called.choice().keeps() || called.at() instanceof NewClassTree;
         for (int k = 0; k < called.arguments().size() && later; k++) {
-            TypeElement wanted = parameter(symbol, k);
+            TypeElement wanted = parameter(services, symbol, k);
             if (wanted != null && wanted.toString().equals("java.util.Comparator")
                     && !services.ownership().comparators().isAtHand(called.arguments().get(k))) {
                 services.tell(Notes.Kind.ASSUMED, body, called.at(), "the comparator that " + called.shown()
@@ -104,10 +123,28 @@ final class Callbacks {
         body.emit(calls.isEmpty() ? Part.NOTHING : new Part.Either(Dispatch.either(calls), Part.NOTHING));
     }
 
+    /**
+     * The text of an object of a class at hand, and the like, where a library's class above makes it: that of a list asks for
+     * its elements.
+     */
+    void byLibrary(JavaClass known, Set<String> names, Tree at) {
+        Element above = services.attribution().types().asElement(known.symbol().getSuperclass());
+        if (!(above instanceof TypeElement library) || services.program().find(library) != null) {
+            return;
+        }
+        boolean makes = services.attribution().elements().getAllMembers(library).stream().anyMatch(each ->
+            names.contains(each.getSimpleName().toString()) && MAKING.contains(each.getEnclosingElement().toString()));
+        if (makes) {
+            emit(known, library, Value.OPAQUE, at);
+        }
+    }
+
     /** A method of a library's class calls others of its object, which a class at hand has in their place. */
     private void own(LibraryCalls.Called called, ExecutableElement symbol) {
         Choice.Kind kind = called.choice().kind();
-        if (symbol.getModifiers().contains(Modifier.STATIC) || kind != Choice.Kind.PURE && kind != Choice.Kind.ASSUMED
+        boolean asks = kind == Choice.Kind.PURE || kind == Choice.Kind.ASSUMED
+            || kind == Choice.Kind.STEP && !services.program().sure();
+        if (symbol.getModifiers().contains(Modifier.STATIC) || !asks
                 || !(called.at() instanceof MethodInvocationTree call)) {
             return;
         }
@@ -125,7 +162,7 @@ final class Callbacks {
     }
 
     /** The class that a parameter is of; null where it takes any object. */
-    private TypeElement parameter(ExecutableElement symbol, int at) {
+    static TypeElement parameter(Services services, ExecutableElement symbol, int at) {
         List<? extends VariableElement> all = symbol.getParameters();
         if (all.isEmpty()) {
             return null;
@@ -141,18 +178,22 @@ final class Callbacks {
     private void emit(JavaClass known, TypeElement wanted, ExpressionTree object, LibraryCalls.Called called) {
         boolean own = object == null || Uses.isName(object, "this");
         Value me = own ? body.me(services.attribution().start(called.at())) : null;
+        emit(known, wanted, me == null ? Value.OPAQUE : me, called.at());
+    }
+
+    private void emit(JavaClass known, TypeElement wanted, Value me, Tree at) {
         List<Part> calls = new ArrayList<>();
         for (JavaClass each : services.families().kin(known)) {
             for (JavaMethod method : each.methods()) {
                 if (method.isVirtual() && !method.isAbstract() && replaces(method, wanted)) {
                     boolean fits = me instanceof Value.Named && me.type().fits(each.shape());
                     calls.add(new Part.Call(fits ? me : new Value.Opaque(each.shape()), services.methods().of(method),
-                        List.of(new Value.Named(body.statics())), services.attribution().name(called.at())));
+                        List.of(new Value.Named(body.statics())), services.attribution().name(at)));
                 }
             }
         }
         if (!calls.isEmpty()) {
-            body.emit(new Part.Repeat(Dispatch.either(calls), services.attribution().name(called.at())));
+            body.emit(new Part.Repeat(Dispatch.either(calls), services.attribution().name(at)));
         }
     }
 

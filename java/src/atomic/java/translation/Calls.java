@@ -117,6 +117,7 @@ final class Calls {
                 boolean looks = k < parameters.size() && !method.symbol().isVarArgs()
                     && services.ownership().onlyLooks(parameters.get(k));
                 lend(all.get(k), !looks, trees.get(k));
+                expose(all.get(k), trees.get(k), k < parameters.size() ? parameters.get(k) : null);
             }
         }
         List<Value> kept = new ArrayList<>();
@@ -140,6 +141,18 @@ final class Calls {
             body.emit(Part.sequence(List.of(access, access)));
             services.functions().compare(services.fields().comparing(owned.contents()), body, at);
         }
+    }
+
+    /** What a field holds that others may know is touched by a method that is given it, whatever that method may assume. */
+    private void expose(Value value, ExpressionTree given, VariableElement parameter) {
+        boolean known = value instanceof Value.Owned || value instanceof Value.Fresh || services.immutable(given) != null;
+        if (parameter == null || known || !(services.attribution().element(Uses.bare(given)) instanceof VariableElement field)
+                || !field.getKind().isField() || services.program().find(field.getEnclosingElement()) == null
+                || !services.program().library().hasContents(field.asType()) || !services.uses().isAsked(parameter)) {
+            return;
+        }
+        body.emit(services.doubt(Method.Doubt.OPEN, given.toString(), true, body, given, "object of others: other threads may"
+            + " know what " + field.getSimpleName() + " holds, which a method is given here, so that counts as several steps"));
     }
 
     private void invoke(JavaMethod method, Value receiver, List<Value> arguments, Tree tree) {

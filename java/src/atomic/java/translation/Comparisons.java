@@ -17,7 +17,9 @@ import java.util.ArrayList;
 import java.util.HashSet;
 import java.util.LinkedHashSet;
 import java.util.List;
+import java.util.Objects;
 import java.util.Set;
+import java.util.regex.Pattern;
 import javax.lang.model.element.ElementKind;
 import javax.lang.model.element.RecordComponentElement;
 import javax.lang.model.element.VariableElement;
@@ -34,13 +36,17 @@ import javax.lang.model.type.WildcardType;
 final class Comparisons {
     private static final Set<String> COMPARING = Set.of("get", "put", "remove", "contains", "containsKey", "containsValue",
         "indexOf", "lastIndexOf", "putIfAbsent", "getOrDefault", "replace", "computeIfAbsent", "computeIfPresent", "compute",
-        "merge", "removeFirstOccurrence", "removeLastOccurrence", "floor", "ceiling", "higher", "lower");
+        "merge", "removeFirstOccurrence", "removeLastOccurrence", "floor", "ceiling", "higher", "lower", "addIfAbsent", "search");
     private static final Set<String> CALLED = Set.of("equals", "hashCode", "compareTo");
     private static final Set<String> ALL = Set.of("equals", "hashCode", "compareTo", "toString");
     private static final Set<String> WHOLE = Set.of("equals", "hashCode", "toString", "sort", "addAll", "removeAll",
         "retainAll", "containsAll", "putAll", "sorted", "distinct");
     private static final Set<String> JOINING = Set.of("append", "insert", "print", "println", "printf", "format",
         "formatted", "valueOf", "join", "toString");
+
+    /** What works on objects, and has none. */
+    private static final Pattern FUNCTIONS = Pattern.compile("java\\.util\\.(function\\..*|Comparator|"
+        + "concurrent\\.Callable)|java\\.lang\\.Class");
 
     /** What makes a text of an object. */
     static final Set<String> TEXT = Set.of("toString");
@@ -73,10 +79,15 @@ final class Comparisons {
             }
             elements(services.attribution().type(argument), called);
         }
-        if ((WHOLE.contains(name) || ordered) && called.at() instanceof MethodInvocationTree call
+        if ((WHOLE.contains(name) || ordered || name.equals("collect") && !isList(called)) && called.at() instanceof MethodInvocationTree call
                 && call.getMethodSelect() instanceof MemberSelectTree select) {
             elements(services.attribution().type(select.getExpression()), called);
         }
+    }
+
+    /** Whether a stream's elements only go into a list, which compares none. */
+    private static boolean isList(LibraryCalls.Called called) {
+        return called.arguments().stream().allMatch(each -> each.toString().matches("(Collectors\\.)?to(Unmodifiable)?List\\(\\)"));
     }
 
     /** A new set, map or queue in order compares the elements that it begins with. */
@@ -90,17 +101,12 @@ final class Comparisons {
 
     /** A call that is given a whole collection may compare its elements, or make texts of them. */
     void elements(TypeMirror type, LibraryCalls.Called called) {
-        if (type instanceof ArrayType array) {
-            element(array.getComponentType(), called);
-        } else if (type instanceof DeclaredType declared && services.program().find(type) == null) {
-            declared.getTypeArguments().forEach(each -> element(each, called));
-        }
-    }
-
-    private void element(TypeMirror type, LibraryCalls.Called called) {
-        JavaClass known = services.program().find(type);
-        if (known != null) {
-            own(known, ALL, called.at());
+        String name = type instanceof DeclaredType declared ? declared.asElement().toString() : "";
+        if (FUNCTIONS.matcher(name).matches()) {
+            ((DeclaredType) type).getTypeArguments().stream().map(services.program()::find).filter(Objects::nonNull)
+                .forEach(each -> own(each, ALL, called.at()));
+        } else if (services.program().find(type) == null && !name.equals("java.util.stream.Collector")) {
+            within(type).forEach(each -> own(each, ALL, called.at()));
         }
     }
 
@@ -141,6 +147,8 @@ final class Comparisons {
         if (!calls.isEmpty()) {
             Part one = Dispatch.either(calls);
             body.emit(names == TEXT ? one : new Part.Repeat(one, services.attribution().name(at)));
+        } else {
+            new Callbacks(services, body).byLibrary(known, names, at);
         }
     }
 
@@ -185,6 +193,8 @@ final class Comparisons {
             found.add(known);
         } else if (type instanceof DeclaredType declared) {
             declared.getTypeArguments().forEach(each -> found.addAll(within(each)));
+        } else if (type instanceof ArrayType array) {
+            found.addAll(within(array.getComponentType()));
         } else if (type instanceof WildcardType wildcard && wildcard.getExtendsBound() != null) {
             found.addAll(within(wildcard.getExtendsBound()));
         }

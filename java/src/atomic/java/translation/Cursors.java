@@ -33,7 +33,7 @@ final class Cursors {
 
     /** Whether to touch a field, or what it holds, is no step, where only what is certain counts; where it is one, a hint. */
     boolean leavesOut(VariableElement field, Tree at) {
-        boolean own = field != null && isOwn(field);
+        boolean own = field != null && services.facts().of(field, "of one thread", this::isOwn);
         if (own) {
             services.hint(at, "own field: one thread alone has an iterator or a builder, as a rule, so that nobody else touches "
                 + field.getSimpleName() + "; it counts as a step all the same");
@@ -54,13 +54,14 @@ final class Cursors {
     }
 
     /** Whether a class is an iterator, or what iterators alone are made of: an abstract one of which each heir is one. */
-    private boolean walks(TypeElement owner) {
+    boolean walks(TypeElement owner) {
         if (WALKS.stream().map(services.attribution().elements()::getTypeElement).anyMatch(each -> isBelow(owner, each))) {
             return true;
         }
-        List<TypeElement> heirs = services.program().classes().stream().map(JavaClass::symbol)
+        JavaClass known = owner.getModifiers().contains(Modifier.ABSTRACT) ? services.program().find(owner) : null;
+        List<TypeElement> heirs = known == null ? List.of() : services.families().below(known).stream().map(JavaClass::symbol)
             .filter(each -> services.attribution().types().asElement(each.getSuperclass()) == owner).toList();
-        return owner.getModifiers().contains(Modifier.ABSTRACT) && !heirs.isEmpty() && heirs.stream().allMatch(this::walks);
+        return !heirs.isEmpty() && heirs.stream().allMatch(this::walks);
     }
 
     private boolean isBelow(TypeElement owner, TypeElement above) {

@@ -210,7 +210,9 @@ final class Expressions extends SimpleTreeVisitor<Value, Void> {
 
     @Override
     public Value visitNewClass(NewClassTree tree, Void nothing) {
-        return new Calls(services, body).construct(tree);
+        Value made = new Calls(services, body).construct(tree);
+        services.exits().give(tree, body);
+        return made;
     }
 
     @Override

@@ -1,5 +1,6 @@
 package atomic.java.translation;
 
+import atomic.java.ownership.Escape;
 import atomic.java.ownership.Nodes;
 import atomic.java.ownership.Ownership;
 import atomic.java.ownership.Uses;
@@ -24,6 +25,7 @@ import java.util.HashSet;
 import java.util.List;
 import java.util.Map;
 import java.util.Set;
+import java.util.function.Predicate;
 import javax.lang.model.element.ElementKind;
 import javax.lang.model.element.Modifier;
 import javax.lang.model.element.VariableElement;
@@ -47,6 +49,7 @@ public final class Fields {
     private final Ownership ownership;
     private final Nodes nodes;
     private final Guards guards;
+    private final Predicate<VariableElement> told;
     private final Map<VariableElement, Home> homes = new HashMap<>();
     private final Map<VariableElement, Home> contents = new HashMap<>();
     private final Map<Field, VariableElement> holders = new HashMap<>();
@@ -57,7 +60,9 @@ public final class Fields {
     private final Map<Shape, Field> outers = new HashMap<>();
     private final Map<String, Set<JavaClass>> declaring = new HashMap<>();
 
-    Fields(Program program, Families families, Uses uses, Ownership ownership, Nodes nodes) {
+    /** The fields of a program; {@code told} says of which ones it is told where their objects get out. */
+    Fields(Program program, Families families, Uses uses, Ownership ownership, Nodes nodes, Predicate<VariableElement> told) {
+        this.told = told;
         this.program = program;
         this.families = families;
         this.uses = uses;
@@ -291,18 +296,22 @@ public final class Fields {
 
     /** Whether a field keeps the value that it gets before its object is known to others. */
     public boolean isSettled(VariableElement java) {
-        if (java.getModifiers().contains(Modifier.FINAL) || java.getKind() != ElementKind.FIELD) {
+        boolean isFinal = java.getModifiers().contains(Modifier.FINAL);
+        if (java.getKind() != ElementKind.FIELD || isFinal && (program.sure() || Families.isStatic(java))) {
             return true;
         }
         return settled.computeIfAbsent(java, this::isNeverAssignedLater);
     }
 
     private boolean isNeverAssignedLater(VariableElement java) {
-        if (guards.isNamed(java) || java.getModifiers().contains(Modifier.VOLATILE) || uses.isReflected(java)) {
+        boolean isFinal = java.getModifiers().contains(Modifier.FINAL);
+        if (!isFinal && (guards.isNamed(java) || java.getModifiers().contains(Modifier.VOLATILE) || uses.isReflected(java))) {
             return false;
         }
-        return uses.assignments(java).stream().allMatch(each -> each.tree() instanceof VariableTree
-            || isSelf(each.target()) && begins(each.tree(), java));
+        JavaClass owner = program.find(java.getEnclosingElement());
+        boolean part = owner != null && owner.symbol().getKind() == ElementKind.RECORD && uses.assignments(java).isEmpty();
+        return part ? owner.methods().stream().noneMatch(each -> each.isConstructor() && ownership.escape().selves().from(each)
+            != Escape.NEVER) : uses.assignments(java).stream().allMatch(each -> isSelf(each.target()) && begins(each.tree(), java));
     }
 
     private static boolean isSelf(Tree target) {
@@ -318,18 +327,11 @@ public final class Fields {
             }
             each = program.attribution().parent(each);
         }
-        boolean own = each != null
-            && program.attribution().element(program.attribution().parent(each)) == java.getEnclosingElement();
-        boolean constructs = each instanceof MethodTree method && method.getReturnType() == null
-            && !Families.isStatic(java) && !isKnown(method, tree);
+        boolean own = each != null && program.attribution().element(program.attribution().parent(each)) == java.getEnclosingElement();
+        boolean constructs = each instanceof MethodTree method && method.getReturnType() == null && !Families.isStatic(java);
         return own && (constructs || each instanceof BlockTree block && block.isStatic() == Families.isStatic(java)
-            || each instanceof VariableTree);
-    }
-
-    /** Whether a constructor may have let its object get away before a tree in it. */
-    private boolean isKnown(MethodTree constructor, Tree tree) {
-        JavaMethod method = program.method(program.attribution().element(constructor));
-        return method != null && ownership.escape().selves().from(method) < program.attribution().start(tree);
+            || each instanceof VariableTree) && (Families.isStatic(java) || !ownership.escape().selves().isKnownBefore(tree,
+            each, program.find(java.getEnclosingElement())));
     }
 
     /** Whether objects of a type are locks with methods, or belong to such. */
@@ -346,7 +348,8 @@ public final class Fields {
         String made = ownership.made(java);
         boolean contents = made != null && (made.equals("[]") || program.library().hasContents(java.asType())
             && program.library().hasContents(made));
-        return contents && program.find(java.getEnclosingElement()) != null && ownership.owns(java);
+        return contents && program.find(java.getEnclosingElement()) != null
+            && (ownership.owns(java) || told.test(java));
     }
 
     /** The field of the one object {@code Statics} that leads to a class's static fields, and is its lock. */

@@ -14,7 +14,9 @@ import com.sun.source.tree.VariableTree;
 import java.util.LinkedHashSet;
 import java.util.List;
 import java.util.Set;
+import javax.lang.model.element.ElementKind;
 import javax.lang.model.element.Modifier;
+import javax.lang.model.element.VariableElement;
 import javax.lang.model.type.TypeMirror;
 
 /** What runs before a constructor's own statements, and when a class is first used. */
@@ -42,10 +44,17 @@ final class Initialisers {
     private void run(JavaClass self, Body body, boolean statics) {
         Statements statements = new Statements(services, body);
         Expressions expressions = new Expressions(services, body);
+        Accesses accesses = new Accesses(services, body);
+        if (!statics && self.symbol().getKind() == ElementKind.RECORD) {
+            accesses.parts(self);
+        }
         for (Tree member : self.tree().getMembers()) {
             if (member instanceof VariableTree variable && variable.getInitializer() != null
                     && (variable.getModifiers().getFlags().contains(Modifier.STATIC) || self.isInterface()) == statics) {
                 expressions.value(variable.getInitializer());
+                if (services.attribution().element(variable) instanceof VariableElement field) {
+                    accesses.begin(field, variable);
+                }
             } else if (member instanceof BlockTree block && block.isStatic() == statics) {
                 statements.all(block.getStatements());
             }

@@ -27,7 +27,7 @@ record Lazies(Services services) {
 
     /** Notes of a look at such a field, or of a change, what it does. */
     void note(VariableElement field, boolean write, Tree at) {
-        if (isLazy(field)) {
+        if (services.facts().of(field, "lazy", this::isLazy)) {
             boolean drops = write && isNull(services.attribution().parent(at));
             services.program().touches().put(services.attribution().name(at),
                 new Touch(field, drops ? Touch.Kind.DROP : write ? Touch.Kind.MAKE : Touch.Kind.FIND, ""));

@@ -5,7 +5,6 @@ import atomic.java.library.Library;
 import atomic.java.ownership.Uses;
 import atomic.java.places.Notes;
 import atomic.java.program.JavaClass;
-import atomic.java.program.JavaMethod;
 import atomic.java.skeleton.Method;
 import atomic.java.skeleton.Part;
 import atomic.java.skeleton.Value;
@@ -224,7 +223,7 @@ final class LibraryCalls {
             lock(called);
         } else if (new StableLooks(services).isStable(called)) {
             services.hint(called.at(), "stable look: nothing is taken out of this map, so what a look has found stays so;"
-                + " it counts as a step all the same");
+                + " where that isn't asked at once, it counts as a step all the same");
             body.emit(services.program().sure() ? Part.NOTHING : services.step(called.shown(), false, called.at()));
         } else if (new StableLooks(services).isUnderLock(called)) {
             services.hint(called.at(), "look under a lock: some of what changes this object holds a lock, so that a look within"
@@ -270,10 +269,7 @@ final class LibraryCalls {
     /** Whether a class of the sources is one of those whose method is called. */
     private boolean isAtHand(Called called) {
         Element symbol = services.attribution().element(called.at());
-        var types = services.attribution().types();
-        return symbol != null && services.atHand().computeIfAbsent(symbol.getEnclosingElement(), home ->
-            services.program().classes().stream().anyMatch(each -> types.isSubtype(
-                types.erasure(each.symbol().asType()), types.erasure(home.asType()))));
+        return symbol != null && services.program().overriding().isAtHand(symbol.getEnclosingElement());
     }
 
     private void unknown(Called called) {
@@ -350,9 +346,11 @@ final class LibraryCalls {
         return choice.keeps() || choice.kind() == Choice.Kind.UNKNOWN ? Value.OPAQUE : new Value.Fresh(null);
     }
 
+    /** The name of a type. One that javac makes up for a wildcard has a number, which differs from run to run. */
     private String simple(TypeMirror type) {
-        return type instanceof javax.lang.model.type.DeclaredType declared ? declared.asElement().getSimpleName().toString()
-            : String.valueOf(type);
+        TypeMirror named = String.valueOf(type).startsWith("capture#") ? services.attribution().types().erasure(type) : type;
+        return named instanceof javax.lang.model.type.DeclaredType declared ? declared.asElement().getSimpleName().toString()
+            : String.valueOf(named);
     }
 
     /** A method's name that stands for a library's method. */

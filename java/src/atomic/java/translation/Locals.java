@@ -9,6 +9,7 @@ import com.sun.source.tree.Tree;
 import com.sun.source.tree.VariableTree;
 import com.sun.source.util.TreeScanner;
 import java.util.List;
+import javax.lang.model.element.Element;
 import javax.lang.model.element.RecordComponentElement;
 import javax.lang.model.element.VariableElement;
 
@@ -29,6 +30,14 @@ final class Locals {
     void declare(VariableTree tree, Value first) {
         if (services.attribution().element(tree) instanceof VariableElement variable) {
             body.locals().put(variable, value(variable, first == null ? Value.OPAQUE : first));
+        }
+    }
+
+    /** A local that is assigned in one place alone may show the contents of a field from here on. */
+    void assign(Element target, Value value) {
+        if (value instanceof Value.Owned && target instanceof VariableElement variable && services.uses().isSettled(variable)
+                && !(body.locals().get(variable) instanceof Value.Fresh)) {
+            body.locals().put(variable, value);
         }
     }
 
@@ -83,6 +92,9 @@ final class Locals {
 
     /** The value of a local or parameter where it is read. */
     Value read(VariableElement variable, long offset) {
+        if (offset >= services.ownership().taken().from(variable)) {
+            return services.ownership().taken().isAlone(variable, offset) ? new Value.Fresh(null) : Value.OPAQUE;
+        }
         VariableElement unchanging = services.immutables().of(variable);
         if (unchanging != null) {
             return services.fields().unchanging(unchanging);

@@ -1,6 +1,5 @@
 package atomic.java.translation;
 
-import atomic.java.ownership.Escape;
 import atomic.java.program.Families;
 import atomic.java.program.JavaClass;
 import atomic.java.program.JavaMethod;
@@ -57,15 +56,14 @@ public final class Methods {
 
     /** Writes the whole skeleton. */
     public void translate() {
-        for (JavaClass each : services.program().classes()) {
-            for (JavaMethod method : List.copyOf(each.methods())) {
-                of(method, method.owner(), method.isConstructor() || method.readsNewObject());
-                promises.apart(method).forEach(heir -> of(method, heir, false));
-            }
-        }
+        services.program().classes().stream().flatMap(each -> List.copyOf(each.methods()).stream()).forEach(method -> {
+            of(method, method.owner(), method.isConstructor() || method.readsNewObject());
+            promises.apart(method).forEach(heir -> of(method, heir, false));
+        });
         while (!waiting.isEmpty() || !last.isEmpty()) {
             (waiting.isEmpty() ? last : waiting).remove().run();
         }
+        services.exits().finish(origins.keySet());
     }
 
     /** The Java method of each method that is judged for its own sake. */

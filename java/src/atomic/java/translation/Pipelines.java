@@ -39,6 +39,7 @@ final class Pipelines {
     void run(LibraryCalls.Called called, ExpressionTree before) {
         Part part = body.collect(() -> {
             new Contents(services, body).call(called.object(), false, called.at(), called.shown());
+            new Comparisons(services, body).write(called);
             body.over(called.object(), () -> {
                 functions(before);
                 services.functions().callAll(called.arguments(), body, called.at(), false);

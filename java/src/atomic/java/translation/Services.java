@@ -20,7 +20,6 @@ import java.util.HashSet;
 import java.util.List;
 import java.util.Map;
 import java.util.Set;
-import javax.lang.model.element.Element;
 import javax.lang.model.element.VariableElement;
 
 /** What all translators share: what is known of the program, and the methods that stand for a library's. */
@@ -36,10 +35,11 @@ final class Services {
     private final Computing computing;
     private final Immutables immutables = new Immutables(this);
     private final Cursors cursors = new Cursors(this);
+    private final Wrappers wrappers = new Wrappers(this);
+    private final Exits exits = new Exits(this);
     private final Map<String, Method> helpers = new HashMap<>();
     private final Facts facts = new Facts();
     private final Set<VariableElement> changed = new HashSet<>();
-    private final Map<Element, Boolean> atHand = new HashMap<>();
     private final Field state;
 
     Services(Program program, Methods methods) {
@@ -50,7 +50,7 @@ final class Services {
         ownership.confine();
         nodes = new Nodes(program, ownership);
         families = new Families(program);
-        fields = new Fields(program, families, uses, ownership, nodes);
+        fields = new Fields(program, families, uses, ownership, nodes, exits::areTold);
         functions = new Functions(this);
         computing = new Computing(this);
         state = new Field(program.helpers(), program.names().invent("state", "a step"), null, false);
@@ -108,13 +108,18 @@ final class Services {
         return changed.add(field);
     }
 
-    /** Of library classes that were asked for, whether some class of the sources is one of them. */
-    Map<Element, Boolean> atHand() {
-        return atHand;
-    }
-
     Cursors cursors() {
         return cursors;
+    }
+
+    /** Where what a field holds gets out. */
+    Exits exits() {
+        return exits;
+    }
+
+    /** Library objects that keep one of the sources. */
+    Wrappers wrappers() {
+        return wrappers;
     }
 
     StableLooks stable() {
@@ -156,15 +161,26 @@ final class Services {
 
     private Part.Call helper(String shown, boolean compound, Method.Doubt doubt, Place place) {
         Method helper = helpers.computeIfAbsent(shown + compound + doubt, key -> {
-            Method made = new Method(program.helpers(), program.names().invent(shown, "=" + shown), null);
-            made.doubt(doubt);
-            Value self = new Value.Named(Path.of(new Path.Root(Path.Kind.THIS, "this", program.helpers())));
-            Part one = new Part.Access(self, state, true, null);
-            made.body(compound ? Part.sequence(List.of(one, one)) : one);
-            program.helpers().methods().add(made);
+            Method made = blank(shown, doubt);
+            fill(made, compound);
             return made;
         });
         return new Part.Call(new Value.Opaque(program.helpers()), helper, List.of(), place);
+    }
+
+    /** A library's method that does nothing yet. */
+    Method blank(String shown, Method.Doubt doubt) {
+        Method made = new Method(program.helpers(), program.names().invent(shown, "=" + shown), null);
+        made.doubt(doubt);
+        program.helpers().methods().add(made);
+        return made;
+    }
+
+    /** Makes such a method a step, or several. */
+    void fill(Method helper, boolean compound) {
+        Value self = new Value.Named(Path.of(new Path.Root(Path.Kind.THIS, "this", program.helpers())));
+        Part one = new Part.Access(self, state, true, null);
+        helper.body(compound ? Part.sequence(List.of(one, one)) : one);
     }
 
     /** Something that is told where it may be what a wrong alarm comes from. */

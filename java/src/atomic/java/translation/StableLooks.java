@@ -4,6 +4,7 @@ import atomic.java.library.Choice;
 import atomic.java.ownership.Uses;
 import com.sun.source.tree.AssignmentTree;
 import com.sun.source.tree.BlockTree;
+import com.sun.source.tree.EnhancedForLoopTree;
 import com.sun.source.tree.ExpressionTree;
 import com.sun.source.tree.IfTree;
 import com.sun.source.tree.MemberSelectTree;
@@ -24,13 +25,18 @@ import javax.lang.model.element.VariableElement;
 /**
  * Looks that may tell the same at any later time: a look into a concurrent map out of which nothing is taken, and in which
  * nothing is put in another's place; and one at a field that is given an object once. What such a look has found stays so, and
- * it is as if it were done later. One that found nothing doesn't tell what comes: so each of them counts as a step, and only
- * where what is certain counts it doesn't.
+ * it is as if it were done later. One that found nothing doesn't tell what comes: so each of them counts as a step, but where
+ * it is asked at once (see {@link FoundLooks}), and where only what is certain counts.
  */
 record StableLooks(Services services) {
     private static final Set<String> LOOKS = Set.of("get", "getOrDefault");
+    private static final Set<String> TESTS = Set.of("isPresent", "isEmpty");
     private static final Set<String> ALL_LOOKS = Set.of("get", "getPlain", "getAcquire", "getOpaque", "intValue", "longValue",
         "getOrDefault", "containsKey", "contains", "isEmpty", "peek", "peekFirst", "peekLast", "size", "length");
+    private static final Set<String> MAPS = Set.of("java.util.concurrent.ConcurrentHashMap",
+        "java.util.concurrent.ConcurrentSkipListMap");
+    private static final Set<String> ONLY_ADDING = Set.of("get", "getOrDefault", "containsKey", "putIfAbsent",
+        "computeIfAbsent", "size", "isEmpty", "mappingCount", "forEach");
     private static final Set<String> ADDING = Set.of("get", "getOrDefault", "containsKey", "putIfAbsent", "computeIfAbsent",
         "size", "isEmpty", "mappingCount", "keySet", "values", "entrySet", "forEach");
 
@@ -42,6 +48,25 @@ record StableLooks(Services services) {
             && isHidden(field) && services.fields().isSettled(field)
             && (isMap(services.attribution().element(call)) && services.facts().of(field, "only grows", this::onlyGrows)
                 || services.facts().of(field, "set once by attempts", this::isOnlySetOnce));
+    }
+
+    /** Whether a call is a look into a concurrent map of the class's own, with which nothing is done but to look and to add. */
+    boolean isOnlyAddedTo(MethodInvocationTree look) {
+        return look.getMethodSelect() instanceof MemberSelectTree select && select.getIdentifier().contentEquals("get")
+            && services.attribution().element(Uses.bare(select.getExpression())) instanceof VariableElement field
+            && isHidden(field) && services.fields().isSettled(field) && services.facts().of(field, "is only added to",
+                key -> MAPS.contains(String.valueOf(services.ownership().made(key)))
+                    && services.uses().of(key).stream().allMatch(this::onlyAdds));
+    }
+
+    private boolean onlyAdds(Tree use) {
+        if (!(services.attribution().parent(use) instanceof MemberSelectTree select)
+                || !(services.attribution().parent(select) instanceof MethodInvocationTree call)) {
+            return services.uses().isTarget(use);
+        }
+        String name = select.getIdentifier().toString();
+        return ONLY_ADDING.contains(name) || (name.equals("values") || name.equals("keySet"))
+            && services.attribution().parent(call) instanceof EnhancedForLoopTree loop && loop.getExpression() == call;
     }
 
     private boolean onlyGrows(VariableElement map) {
@@ -203,5 +228,18 @@ record StableLooks(Services services) {
             each = services.attribution().parent(each);
         }
         return each != region;
+    }
+
+    /** Whether this only asks whether a hidden field has a value, which from the first one on always has one. */
+    boolean isTestOfFilled(VariableElement field, Tree at) {
+        return services.attribution().parent(at) instanceof MemberSelectTree select
+            && TESTS.contains(select.getIdentifier().toString()) && isHidden(field)
+            && services.attribution().types().erasure(field.asType()).toString().startsWith("java.util.Optional")
+            && services.facts().of(field, "never becomes empty", this::staysFilled);
+    }
+
+    private boolean staysFilled(VariableElement field) {
+        return services.uses().assignments(field).stream().allMatch(each -> each.tree() instanceof VariableTree
+            || each.value() != null && each.value().toString().matches("Optional\\w*\\.of\\(.*"));
     }
 }

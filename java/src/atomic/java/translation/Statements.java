@@ -70,6 +70,9 @@ final class Statements extends SimpleTreeVisitor<Void, Void> {
                 k += asked - 1;
                 continue;
             }
+            if (body.depth() <= DEEPEST && new FoundLooks(services, body, this).write(statements.subList(k, statements.size()))) {
+                return;
+            }
             int looked = body.depth() > DEEPEST ? 0
                 : new Rechecks(services, body, this, regions).write(statements.subList(k, statements.size()));
             int locked = looked > 0 ? looked - 1 : regions.region(statement, rest);
@@ -91,6 +94,11 @@ final class Statements extends SimpleTreeVisitor<Void, Void> {
         if (statement != null) {
             visit(statement, null);
         }
+    }
+
+    /** What an expression does. */
+    void value(ExpressionTree expression) {
+        expressions.value(expression);
     }
 
     private Part part(StatementTree statement) {

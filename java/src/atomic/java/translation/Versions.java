@@ -2,7 +2,6 @@ package atomic.java.translation;
 
 import atomic.java.ownership.Uses;
 import atomic.java.program.Touch;
-import com.sun.source.tree.AssignmentTree;
 import com.sun.source.tree.ExpressionTree;
 import com.sun.source.tree.MemberSelectTree;
 import com.sun.source.tree.MethodInvocationTree;
