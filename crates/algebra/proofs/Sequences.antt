@@ -4,6 +4,10 @@ use Rattle.algebra.specs.declared.basic.Basic.{Basic}
 use Rattle.algebra.specs.declared.basic.Basic.TheVariants.{Const, Mover, Atomic, Cmpd, Error}
 use Rattle.algebra.specs.Basics.{seq_of}
 
+-- of parts that are the same
+pub seq_same : {a b c d : Basic} → a ≡ b → c ≡ d → seq_of a c ≡ seq_of b d
+seq_same e f = λ i. seq_of (e i) (f i)
+
 pub unit_after : (a : Basic) → seq_of a Const ≡ a
 unit_after Const = refl
 unit_after Mover = refl

@@ -1,11 +1,16 @@
 -- Options that hang on others or on tests, and tests that do.
 use Rattle.std.proofs.Common.{◌≡◌, Bool, true, false, not, ◌||◌, Option, Some, None, refl}
-use Rattle.std.specs.Prelude.{option_and_then, if◌then◌else◌}
-use Rattle.std.proofs.lemmas.Option.{option_and_then_some}
+use Rattle.std.specs.Prelude.{option_and_then, option_map, if◌then◌else◌}
+use Rattle.std.proofs.lemmas.Option.{none-some, same_Some, option_and_then_some}
 
 -- what is found from an option, and is there
 pub then_parts : {A B : Type 0} (f : A → Option B) (o : Option A) (b : B) → option_and_then f o ≡ Some b → (a : A) × (o ≡ Some a) × (f a ≡ Some b)
 then_parts f o b e = option_and_then_some f o b e (λ a is to. (a, is, to))
+
+-- what is made of an option, and is there
+pub map_parts : {A B : Type 0} (f : A → B) (o : Option A) (b : B) → option_map f o ≡ Some b → (a : A) × (o ≡ Some a) × (f a ≡ b)
+map_parts f None b e = absurd (none-some b e)
+map_parts f (Some a) b e = (a, refl, same_Some (f a) b e)
 
 -- a choice whose first part is another one wherever it is taken
 pub choice_same : {B : Type 0} (b : Bool) (x y z : B) → (b ≡ true → x ≡ y) → (if b then x else z) ≡ (if b then y else z)

@@ -1,6 +1,5 @@
 -- Going up from a class, one step after the other.
-use Rattle.std.proofs.Common.{◌≡◌, ℕ, ◌<◌, ◌-◌, zero, suc, Bool, false, List, [], ◌∷◌, ◌++◌, Option, Some, ap, sym, ◌∙◌, ◌||◌, arith, append_assoc}
-use Rattle.std.specs.List.{list_any}
+use Rattle.std.proofs.Common.{◌≡◌, ℕ, ◌<◌, ◌-◌, zero, suc, List, [], ◌∷◌, ◌++◌, Option, Some, ap, sym, ◌∙◌, arith, append_assoc}
 use Rattle.classes.specs.Lines.{ancestors}
 
 pub next_ancestor : (step : ℕ → Option ℕ) (n c : ℕ) → 0 < n → ancestors step n (Some c) ≡ c ∷ ancestors step (n - 1) (step c)
@@ -15,9 +14,3 @@ list_later step n c before after all some so_far longer =
     ∙ append_assoc before (c ∷ []) (ancestors step (n - 1) (step c))
     ∙ ap (λ z. before ++ z) (sym (next_ancestor step n c some))
     ∙ so_far
-
--- a test that fails for an ancestor
-pub any_later : (f : ℕ → Bool) (step : ℕ → Option ℕ) (n c : ℕ) (all : Bool) → 0 < n → list_any f (ancestors step n (Some c)) ≡ all → f c ≡ false
-    → list_any f (ancestors step (n - 1) (step c)) ≡ all
-any_later f step n c all some so_far not_here =
-    ap (λ b. b || list_any f (ancestors step (n - 1) (step c))) (sym not_here) ∙ ap (list_any f) (sym (next_ancestor step n c some)) ∙ so_far

@@ -7,7 +7,7 @@ use Rattle.std.proofs.lemmas.Bool.{eqb-true, eq-eqb, ne_eqb, or_right, or_cases}
 use Rattle.std.proofs.lemmas.Option.{none-some, same_Some, slice_get-map}
 use Rattle.base.specs.Ancestors.{steps_up, IsAncestor}
 use Rattle.base.proofs.Lists.{contains_cases, contains_later}
-use Rattle.base.proofs.Options.{then_parts, if_taken}
+use Rattle.base.proofs.Options.{then_parts, map_parts, if_taken}
 use Rattle.core_program.specs.declared.program.CoreMethod.{CoreMethod}
 use Rattle.core_program.specs.declared.program.CoreProgram.{CoreProgram}
 use Rattle.core_program.specs.Core.{Method}
@@ -41,10 +41,6 @@ was_kept m (y ∷ ys) x has = by_test (y == m) refl (λ h. let r = was_kept m ys
       | inl e ↦ ((0, omega arith, e), ap (λ n. n == m) (sym e) ∙ other)
       | inr h ↦ later h
     ]
-
-mapped : {A B : Type 0} (f : A → B) (o : Option A) (y : B) → option_map f o ≡ Some y → (x : A) × (o ≡ Some x) × (f x ≡ y)
-mapped f None y e = absurd (none-some y e)
-mapped f (Some x) y e = (x, refl, same_Some (f x) y e)
 
 module _ (p : CoreProgram) where
   abbrev parts : List KeptClass
@@ -92,7 +88,7 @@ module _ (p : CoreProgram) where
   has_class : (m : ℕ) (c : KeptClass) → class_of_method p m ≡ Some c → HasClass m c
   has_class m c e =
       let first = then_parts (λ j. option_and_then (class_owning m) (slice_get parts j)) (owner p m) c e in
-      let x = mapped (λ (x : Method). x.class) (slice_get (program_of p).methods m) first.0 first.1 in
+      let x = map_parts (λ (x : Method). x.class) (slice_get (program_of p).methods m) first.0 first.1 in
       let second = then_parts (class_owning m) (slice_get parts first.0) c first.2 in
       let third = if_taken (is_own_of m second.0) (Some second.0) c second.2 in
       let same = same_Some second.0 c third.1 in

@@ -1,5 +1,5 @@
 -- To set the finality of a field is to make it final, and to set it back leaves the fields as they were. To mark a number marks that alone.
-use Rattle.std.proofs.Common.{◌≡◌, ◌≢◌, ℕ, zero, suc, ◌+◌, ◌<◌, ◌≤◌, ◌==◌, ◌&&◌, ◌||◌, Bool, true, false, not, List, [], ◌∷◌, ◌++◌, length, map, drop, get_or, Some, refl, ap, sym, ◌∙◌, arith, slice_get, slice_set}
+use Rattle.std.proofs.Common.{◌≡◌, ◌≢◌, ℕ, zero, suc, ◌+◌, ◌<◌, ◌≤◌, ◌==◌, ◌||◌, Bool, true, false, List, [], ◌∷◌, ◌++◌, length, map, drop, get_or, Some, refl, ap, sym, ◌∙◌, arith, slice_get, slice_set}
 use Rattle.std.proofs.Math.Bool.{or_assoc}
 use Rattle.std.proofs.Math.ListN.{drop_of_length-le}
 use Rattle.std.proofs.lemmas.Bool.{eq-eqb, eqb-false, eqb-true, ne_eqb}
@@ -48,14 +48,6 @@ marked_at marks n f below =
     by : (b : Bool) → (n == f) ≡ b → has_mark (slice_set marks n true) f ≡ (has_mark marks f || b)
     by true e = ap (has_mark (slice_set marks n true)) (sym (eqb-true n f e)) ∙ marked_here marks n below ∙ or_true (has_mark marks f)
     by false e = marked_there marks n f (eqb-false n f e) ∙ or_false (has_mark marks f)
-
-not_either : (h a : Bool) → (not h && not a) ≡ not (h || a)
-not_either true a = refl
-not_either false a = refl
-
--- what isn't marked, where nothing was marked before
-pub not_marked : (h a : Bool) {first now : Bool} → first ≡ h → now ≡ (first || a) → (not h && not a) ≡ not now
-not_marked h a first now = not_either h a ∙ ap not (sym (now ∙ ap (λ b. b || a) first))
 
 module _ {X : Type 0} (any : List X → Bool) where
   -- the marks so far, with those of one more and of all that are left, are still the same

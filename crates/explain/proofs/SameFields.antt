@@ -3,10 +3,10 @@ use Rattle.std.proofs.Common.{◌≡◌, ℕ, zero, suc, Bool, true, false, List
 use Rattle.std.specs.Prelude.{slice_get}
 use Rattle.std.specs.List.{list_all}
 use Rattle.paths.specs.Paths.{PathData, extended_some}
-use Rattle.algebra.specs.declared.basic.Basic.{Basic}
 use Rattle.algebra.specs.declared.basic.Basic.TheVariants.{Atomic, Error, Mover}
 use Rattle.algebra.specs.Basics.{seq_of, join_of, star_of}
 use Rattle.algebra.specs.HeldPaths.{Held, with_path}
+use Rattle.algebra.proofs.Sequences.{seq_same}
 use Rattle.core_program.specs.declared.program.CoreMethod.{CoreMethod}
 use Rattle.core_program.specs.declared.types.CoreType.TheVariants.{Int, Boolean, Class}
 use Rattle.core_program.specs.Core.{Program, Expr, Exprs, IntE, TruthE, NullE, ThisE, VarE, NotE, NegE, BinaryE, AndE, OrE, GetE, CallE, NewE, no_exprs, and_expr}
@@ -26,9 +26,6 @@ required_same (x ∷ xs) [] e m = absurd cc
 required_same (x ∷ xs) (y ∷ ys) e zero = let first : x.requires_.items ≡ y.requires_.items = cc in first
 required_same (x ∷ xs) (y ∷ ys) e (suc m) =
     let rest : map (λ (m : CoreMethod). m.requires_.items) xs ≡ map (λ (m : CoreMethod). m.requires_.items) ys = cc in required_same xs ys rest m
-
-seq_same : {a b c d : Basic} → a ≡ b → c ≡ d → seq_of a c ≡ seq_of b d
-seq_same e f = λ i. seq_of (e i) (f i)
 
 module _ (P Q : Program) (rel : ℕ → List PathData) (A : Assignment) (fields : P.fields ≡ Q.fields) (required : (m : ℕ) → required_paths (slice_get P.methods m) ≡ required_paths (slice_get Q.methods m)) where
   path_same : (e : Expr) → path_of P e ≡ path_of Q e

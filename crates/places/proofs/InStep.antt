@@ -1,6 +1,7 @@
 -- The nodes of an expression in step with what they were made of.
 use Rattle.std.proofs.Common.{◌≡◌, ℕ, List, [], ◌∷◌, ◌++◌, Option, Some, Ok, refl, sym, ap, subst, ◌∙◌, ◌&&◌, option_map}
 use Rattle.std.proofs.lemmas.Option.{same_Some}
+use Rattle.base.proofs.Options.{map_parts}
 use Rattle.syntax.specs.declared.tree.Name.{Name}
 use Rattle.syntax.specs.declared.tree.Op.{Op}
 use Rattle.syntax.specs.declared.tree.Op.TheVariants as O
@@ -20,7 +21,7 @@ use Rattle.typing.specs.Rulings.{both, demand}
 use Rattle.typing.specs.Scopes.{Scope, variable}
 use Rattle.typing.specs.Rules.{TypedData, TypedList, typed, with_argument, is_int, is_boolean, number_rule, least_typed, variable_typed, not_rule, neg_rule, operator_rule, logical_rule, binary_rule, field_rule, method_rule, get_rule, call_rule, class_rule, new_rule, fit_each, final_types, declared_parameter_types}
 use Rattle.typing.specs.Exprs.{elaborated, elaborated_each, variable_rule}
-use Rattle.typing.proofs.Inversions.{same_ok, gain_of, given_of, both_of, demand_of, then_of, ok_or_of, map_of}
+use Rattle.typing.proofs.Inversions.{same_ok, gain_of, given_of, both_of, demand_of, then_of, ok_or_of}
 use Rattle.places.specs.Sources.{Source, FromExpr, expr_sources, exprs_sources}
 use Rattle.places.specs.Making.{expr, AreMade, end, more}
 use Rattle.places.proofs.AtNumbers.{made_both}
@@ -40,7 +41,7 @@ module _ (t : TableData) (class : ℕ) (returns : Option CoreType) (first : ℕ)
       → elaborated t class scope u ≡ Some d → Made (expr_parts p.0.node ++ expr_parts p.1.node) us → Made (expr_parts d.node) (FromExpr u ∷ us)
   operator_made u op at p d us is h own =
       let make : NodeType → TypedData = λ ty. typed ty (core.BinaryE op p.0.node p.1.node) in
-      let o = map_of make (binary_type (is_of_kind t) op p.0.ty p.1.ty) d (ok_or_of (option_map make (binary_type (is_of_kind t) op p.0.ty p.1.ty)) (NoRule at) d is) in
+      let o = map_parts make (binary_type (is_of_kind t) op p.0.ty p.1.ty) d (ok_or_of (option_map make (binary_type (is_of_kind t) op p.0.ty p.1.ty)) (NoRule at) d is) in
       over u (make o.0) d (expr_parts p.0.node ++ expr_parts p.1.node) us o.2 refl h own
 
   and_made : (u : ExprTree) (at : ℕ) (p : TypedData × TypedData) (d : TypedData) (us : List Source) → logical_rule core.AndE at p ≡ Ok d
@@ -96,7 +97,7 @@ module _ (t : TableData) (class : ℕ) (returns : Option CoreType) (first : ℕ)
     expr_made (tree.NullE at) d h = over (tree.NullE at) (typed NullT core.NullE) d [] [] (same_Some _ d h) refl h end
     expr_made (tree.ThisE at) d h = over (tree.ThisE at) (typed (class_type class) core.ThisE) d [] [] (same_Some _ d h) refl h end
     expr_made (tree.VarE n) d h =
-        let o = map_of variable_typed (variable scope n.text) d (ok_or_of (option_map variable_typed (variable scope n.text)) (UnknownName n.at) d (gain_of (variable_rule scope n) d h)) in
+        let o = map_parts variable_typed (variable scope n.text) d (ok_or_of (option_map variable_typed (variable scope n.text)) (UnknownName n.at) d (gain_of (variable_rule scope n) d h)) in
         over (tree.VarE n) (variable_typed o.0) d [] [] o.2 refl h end
     expr_made (tree.ParenE e at) d h = expr_made e d h
     expr_made (tree.NotE e at) d h =
@@ -129,7 +130,7 @@ module _ (t : TableData) (class : ℕ) (returns : Option CoreType) (first : ℕ)
     pub each_made : (us : ExprTrees) (l : TypedList) → elaborated_each t class scope us ≡ Some l → Made (exprs_parts l.nodes) (exprs_sources us)
     each_made no_exprs l h = subst (λ z. Made (exprs_parts z.nodes) []) (same_Some _ l h) end
     each_made (more_exprs e es) l h =
-        let g = map_of with_argument (both (elaborated t class scope e) (elaborated_each t class scope es)) l h in
+        let g = map_parts with_argument (both (elaborated t class scope e) (elaborated_each t class scope es)) l h in
         let p = both_of (elaborated t class scope e) (elaborated_each t class scope es) g.0 g.1 in
         subst (λ z. Made (exprs_parts z.nodes) (expr_sources e ++ exprs_sources es)) g.2
         (made_both t class returns first Within (expr_made e g.0.0 p.0) (each_made es g.0.1 p.1))

@@ -2,6 +2,7 @@
 use Rattle.std.proofs.Common.{◌≡◌, ℕ, ◌+◌, Bool, true, false, not, nat_lt, List, [], ◌∷◌, ◌++◌, Option, Some, None, Ok, refl, sym, ap, subst, ◌∙◌, is_none}
 use Rattle.std.specs.Prelude.{ok_or, if◌then◌else◌}
 use Rattle.std.proofs.lemmas.Option.{same_Some}
+use Rattle.base.proofs.Options.{map_parts}
 use Rattle.syntax.specs.declared.tree.Name.{Name}
 use Rattle.syntax.specs.Trees.{ExprTree, StmtTree, StmtTrees, MethodTree, no_stmts, more_stmts}
 use Rattle.syntax.specs.Trees as tree
@@ -22,7 +23,7 @@ use Rattle.typing.specs.Locks.{lock_rule}
 use Rattle.typing.specs.Exprs.{elaborated}
 use Rattle.typing.specs.Completion.{locals_in}
 use Rattle.typing.specs.Stmts.{local_rule, target_rule, set_rule, field_target, put_rule, do_rule, condition_rule, return_rule, value_rule, print_rule, is_runnable, start_rule, if_node, scope_after, stmt_core, block_core}
-use Rattle.typing.proofs.Inversions.{same_ok, gain_of, given_of, both_of, demand_of, then_of, map_of}
+use Rattle.typing.proofs.Inversions.{same_ok, gain_of, given_of, both_of, demand_of, then_of}
 use Rattle.places.specs.Slots.{local_names, block_locals}
 use Rattle.places.specs.Sources.{Source, FromStmt, InSync, NoElse, FromBody, expr_sources, stmt_sources, block_sources, method_sources}
 use Rattle.places.specs.Making.{stmt, sync, none, body, AreMade, end, more}
@@ -91,7 +92,7 @@ module _ (t : TableData) (class : ℕ) (returns : Option CoreType) (first : ℕ)
         → Made (stmt_parts s) (stmt_sources u)
     stmt_made scope within before (tree.EmptyS at) s h coming = over scope within before (tree.EmptyS at) core.EmptyS s [] [] (same_Some _ s h) refl h end
     stmt_made scope within before (tree.BlockS ss at) s h coming =
-        let o = map_of BlockS (block_core t class returns first scope before ss) s h in
+        let o = map_parts BlockS (block_core t class returns first scope before ss) s h in
         over scope within before (tree.BlockS ss at) (BlockS o.0) s (block_parts o.0) (block_sources ss) o.2 refl h (block_made scope within before ss o.0 o.1 coming)
     stmt_made scope within before (tree.LocalS fin ty n e at) s h coming =
         let g = given_of (local_rule t (first + before) fin n.at) (both (gain (type_rule t ty)) (elaborated t class scope e)) s (where_true (nat_lt before most_locals) _ s h) in
@@ -121,14 +122,14 @@ module _ (t : TableData) (class : ℕ) (returns : Option CoreType) (first : ℕ)
         over scope within before (tree.DoS e at) make s (expr_parts g.0.node) (expr_sources e) (demand_of (is_call_or_new g.0.node) (NoRule at) make s g.2).1 refl h
         (expr_made t class returns first Within scope within e g.0 g.1)
     stmt_made scope within before (tree.IfS c u at) s h coming =
-        let o = map_of (λ p. core.IfS p.0 p.1 core.EmptyS) (both (ruled (condition_rule at) (elaborated t class scope c)) (stmt_core t class returns first scope before u)) s h in
+        let o = map_parts (λ p. core.IfS p.0 p.1 core.EmptyS) (both (ruled (condition_rule at) (elaborated t class scope c)) (stmt_core t class returns first scope before u)) s h in
         let p = both_of (ruled (condition_rule at) (elaborated t class scope c)) (stmt_core t class returns first scope before u) o.0 o.1 in
         over scope within before (tree.IfS c u at) (core.IfS o.0.0 o.0.1 core.EmptyS) s (expr_parts o.0.0 ++ (stmt_parts o.0.1 ++ (StmtP core.EmptyS ∷ [])))
         (expr_sources c ++ (stmt_sources u ++ (NoElse (tree.IfS c u at) ∷ []))) o.2 refl h
         (made_both t class returns first Within (condition_made scope within c at o.0.0 p.0)
         (made_both t class returns first Within (stmt_made scope within before u o.0.1 p.1 coming) (more (StmtP core.EmptyS) (NoElse (tree.IfS c u at)) [] [] (none c u at) end)))
     stmt_made scope within before (tree.IfElseS c u v at) s h coming =
-        let o = map_of if_node (both (ruled (condition_rule at) (elaborated t class scope c)) (both (stmt_core t class returns first scope before u) (stmt_core t class returns first scope (before + locals_in u) v))) s h in
+        let o = map_parts if_node (both (ruled (condition_rule at) (elaborated t class scope c)) (both (stmt_core t class returns first scope before u) (stmt_core t class returns first scope (before + locals_in u) v))) s h in
         let p = both_of (ruled (condition_rule at) (elaborated t class scope c)) (both (stmt_core t class returns first scope before u) (stmt_core t class returns first scope (before + locals_in u) v)) o.0 o.1 in
         let q = both_of (stmt_core t class returns first scope before u) (stmt_core t class returns first scope (before + locals_in u) v) o.0.1 p.1 in
         let come = goes.parts before (local_names u) (local_names v) coming in
@@ -138,12 +139,12 @@ module _ (t : TableData) (class : ℕ) (returns : Option CoreType) (first : ℕ)
         (made_both t class returns first Within (condition_made scope within c at o.0.0 p.0)
         (made_both t class returns first Within (stmt_made scope within before u o.0.1.0 q.0 come.0) (stmt_made scope within (before + locals_in u) v o.0.1.1 q.1 next)))
     stmt_made scope within before (tree.WhileS c u at) s h coming =
-        let o = map_of (λ p. core.WhileS p.0 p.1) (both (ruled (condition_rule at) (elaborated t class scope c)) (stmt_core t class returns first scope before u)) s h in
+        let o = map_parts (λ p. core.WhileS p.0 p.1) (both (ruled (condition_rule at) (elaborated t class scope c)) (stmt_core t class returns first scope before u)) s h in
         let p = both_of (ruled (condition_rule at) (elaborated t class scope c)) (stmt_core t class returns first scope before u) o.0 o.1 in
         over scope within before (tree.WhileS c u at) (core.WhileS o.0.0 o.0.1) s (expr_parts o.0.0 ++ stmt_parts o.0.1) (expr_sources c ++ stmt_sources u) o.2 refl h
         (made_both t class returns first Within (condition_made scope within c at o.0.0 p.0) (stmt_made scope within before u o.0.1 p.1 coming))
     stmt_made scope within before (tree.SyncS l us at) s h coming =
-        let o = map_of (λ p. core.SyncS p.0 (BlockS p.1)) (both (gain (lock_rule t class scope l)) (block_core t class returns first scope before us)) s h in
+        let o = map_parts (λ p. core.SyncS p.0 (BlockS p.1)) (both (gain (lock_rule t class scope l)) (block_core t class returns first scope before us)) s h in
         let p = both_of (gain (lock_rule t class scope l)) (block_core t class returns first scope before us) o.0 o.1 in
         over scope within before (tree.SyncS l us at) (core.SyncS o.0.0 (BlockS o.0.1)) s (StmtP (BlockS o.0.1) ∷ block_parts o.0.1)
         (InSync (tree.SyncS l us at) ∷ block_sources us) o.2 refl h
@@ -171,7 +172,7 @@ module _ (t : TableData) (class : ℕ) (returns : Option CoreType) (first : ℕ)
         → Made (block_parts ss) (block_sources us)
     block_made scope within before no_stmts ss h coming = subst (λ z. Made (block_parts z) []) (same_Some _ ss h) end
     block_made scope within before (more_stmts u us) ss h coming =
-        let o = map_of (λ p. core.and_stmt p.0 p.1) (both (stmt_core t class returns first scope before u) (block_core t class returns first (scope_after t class returns first scope before u) (before + locals_in u) us)) ss h in
+        let o = map_parts (λ p. core.and_stmt p.0 p.1) (both (stmt_core t class returns first scope before u) (block_core t class returns first (scope_after t class returns first scope before u) (before + locals_in u) us)) ss h in
         let p = both_of (stmt_core t class returns first scope before u) (block_core t class returns first (scope_after t class returns first scope before u) (before + locals_in u) us) o.0 o.1 in
         let come = goes.parts before (local_names u) (block_locals us) coming in
         let next = subst (λ k. Coming k (block_locals us)) (ap (λ k. before + k) (names_count u)) come.1 in

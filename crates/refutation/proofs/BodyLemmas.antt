@@ -147,8 +147,3 @@ over_said P sets kept rows lines agrees m table whole most is much H part =
 -- marks of bodies
 pub none_body_settled : (P : Program) (rel : ℕ → List PathData) (ls : List LineData) (waits : List Bool) → ((m : ℕ) → slice_get waits m ≡ Some false → ⊥) → AreBodiesSettled P rel ls waits
 none_body_settled P rel ls waits all m asleep = absurd (all m asleep)
-
--- a body that doesn't wait is said
-pub body_said : (P : Program) (rel : ℕ → List PathData) (ls : List LineData) (waits : List Bool) (m : ℕ) (method : Method) (waiting asleep : Bool) → slice_get P.methods m ≡ Some method → AreBodiesSettled P rel ls waits → slice_get waits m ≡ Some waiting → (asleep ≡ true → waiting ≡ false) → asleep ≡ true
-    → AreBodiesSaid P rel (cells_in m method.requires_ (subsets_of (rel m))) ls
-body_said P rel ls waits m method waiting asleep is settled at sleeps e = subst (λ o. AreBodiesSaid P rel (cells_with rel m o) ls) is (settled m (at ∙ ap Some (sleeps e)))

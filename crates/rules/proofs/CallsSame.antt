@@ -3,10 +3,10 @@ use Rattle.std.proofs.Common.{◌≡◌, ℕ, Bool, true, false, ◌||◌, List,
 use Rattle.std.specs.Prelude.{Option, slice_get, if◌then◌else◌}
 use Rattle.std.specs.List.{list_all}
 use Rattle.paths.specs.Paths.{PathData}
-use Rattle.algebra.specs.declared.basic.Basic.{Basic}
 use Rattle.algebra.specs.declared.basic.Basic.TheVariants.{Mover, Atomic, Error}
 use Rattle.algebra.specs.Basics.{seq_of, join_of, star_of}
 use Rattle.algebra.specs.HeldPaths.{Held, with_path}
+use Rattle.algebra.proofs.Sequences.{seq_same}
 use Rattle.core_program.specs.Core.{Program, Expr, Exprs, IntE, TruthE, NullE, ThisE, VarE, NotE, NegE, BinaryE, AndE, OrE, GetE, CallE, NewE, no_exprs, and_expr}
 use Rattle.core_program.specs.Core.{Stmt, Stmts, EmptyS, BlockS, LocalS, SetVarS, SetFieldS, DoS, IfS, WhileS, SyncS, ReturnS, PrintS, StartS, no_stmts, and_stmt}
 use Rattle.core_program.specs.Locks.{path_of}
@@ -21,9 +21,6 @@ first_false false b e = refl
 pub second_false : (a b : Bool) → (a || b) ≡ false → b ≡ false
 second_false true b e = absurd (let k : true ≡ false = e in cc)
 second_false false b e = e
-
-seq_same : {a b c d : Basic} → a ≡ b → c ≡ d → seq_of a c ≡ seq_of b d
-seq_same e f = λ i. seq_of (e i) (f i)
 
 module _ (P : Program) (rel : ℕ → List PathData) (A B : Assignment) (test : ℕ → Bool) (same : (m : ℕ) → test m ≡ false → (H : Held) → A m H ≡ B m H) where
   call_same : (m : ℕ) (o : Option PathData) (args : List (Option PathData)) (H : Held) → test m ≡ false → call_of P rel A m o args H ≡ call_of P rel B m o args H

@@ -10,6 +10,7 @@ use Rattle.algebra.specs.declared.basic.Basic.{Basic}
 use Rattle.algebra.specs.declared.basic.Basic.TheVariants.{Mover, Error}
 use Rattle.algebra.specs.Basics.{seq_of, join_of, star_of}
 use Rattle.algebra.specs.HeldPaths.{Held, has_path, with_path, holds_at}
+use Rattle.algebra.proofs.Sequences.{seq_same}
 use Rattle.core_program.specs.Core.{Program, Method, Expr, Exprs, IntE, TruthE, NullE, ThisE, VarE, NotE, NegE, BinaryE, AndE, OrE, GetE, CallE, NewE, no_exprs, and_expr}
 use Rattle.core_program.specs.Core.{Stmt, Stmts, EmptyS, BlockS, LocalS, SetVarS, SetFieldS, DoS, IfS, WhileS, SyncS, ReturnS, PrintS, StartS, no_stmts, and_stmt}
 use Rattle.core_program.specs.Locks.{path_of}
@@ -112,9 +113,6 @@ module _ (P : Program) (rel : ℕ → List PathData) (A : Assignment) (N : PathD
   after_same (ReturnS e) H K c same = same
   after_same (PrintS e) H K c same = same
   after_same (StartS e) H K c same = same
-
-  seq_same : {a b c d : Basic} → a ≡ b → c ≡ d → seq_of a c ≡ seq_of b d
-  seq_same e f = λ i. seq_of (e i) (f i)
 
   guard_same : (writes : Bool) (xs : List Mention) (e : Expr) (f : ℕ) (H K : Held) → Covers xs → Contains xs (Accesses e f) → Agree H K → access_effect writes (guard_of P f (path_of P e)) H ≡ access_effect writes (guard_of P f (path_of P e)) K
   guard_same writes xs e f H K c has same = access_same writes (guard_of P f (path_of P e)) H K (λ p is. same p (c.guards e f p has is))

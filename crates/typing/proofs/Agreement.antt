@@ -16,7 +16,7 @@ use Rattle.core_program.specs.Types as typing
 use Rattle.core_program.specs.Types.{field_type, field_types}
 use Rattle.core_program.specs.Typed.{fields_from}
 use Rattle.syntax.specs.Trees.{ClassTree, ProgramTree}
-use Rattle.base.proofs.Options.{then_parts}
+use Rattle.base.proofs.Options.{then_parts, map_parts}
 use Rattle.base.proofs.NumberLemmas.{other_below, other_above}
 use Rattle.classes.specs.Names.{texts_of}
 use Rattle.classes.specs.Members.{class_names, field_names}
@@ -29,7 +29,6 @@ use Rattle.typing.specs.Classes.{own_field_numbers, is_final_in, inherited_count
 use Rattle.typing.specs.Order.{IsLined}
 use Rattle.typing.specs.Programs.{field_node, guard_tree_path}
 use Rattle.typing.proofs.Ancestry.{found_there}
-use Rattle.typing.proofs.Inversions.{map_of}
 use Rattle.typing.proofs.Lined.{class_there, all_many}
 use Rattle.typing.proofs.Paired.{line_named}
 use Rattle.typing.proofs.TypedExprs.{IsFieldOf, IsMethodOf, IsMade}
@@ -154,7 +153,7 @@ module _ (tree : ProgramTree) (P : Program) (b : IsBuilt tree P) where
         let class_of : FieldAt → ℕ = λ d. d.class in
         let all : map (λ f. f.class) P.fields ≡ map class_of all_fields_at =
         told_alike (core_field (the_table tree)) (λ f. f.class) class_of
-        (λ d x h. ap (λ z. z.class) (sym (map_of (field_node (the_table tree) d.class d.index d.field) (guard_tree_path (the_table tree) d.class d.field.guard) x h).2))
+        (λ d x h. ap (λ z. z.class) (sym (map_parts (field_node (the_table tree) d.class d.index d.field) (guard_tree_path (the_table tree) d.class d.field.guard) x h).2))
         all_fields_at P.fields b.fields in
         let before = map class_of p.fields_before in
         let middle = map class_of own in
@@ -279,12 +278,12 @@ module _ (tree : ProgramTree) (P : Program) (b : IsBuilt tree P) where
     pub fields_agree : (c : ℕ) (name : List ℕ) (f : ℕ × FieldData) → field_of_class (the_table tree) c name ≡ Some f → IsFieldOf P c f
     fields_agree c name f h =
         let n = then_parts (numbered_field (the_table tree)) (field_number (the_table tree) c name) f h in
-        let d = map_of (λ d. (n.0, d)) (slice_get (the_table tree).fields n.0) f n.2 in
+        let d = map_parts (λ d. (n.0, d)) (slice_get (the_table tree).fields n.0) f n.2 in
         let low = found_low (own_field (the_table tree) name) c n.0 (λ k none. ap (option_and_then (field_in name)) none) n.1 in
         let found = found_there (above_in_table (the_table tree)) (length (the_table tree).classes) in_line.below in_line.apart (own_field (the_table tree) name) n.0 c low n.1 in
         let j = found.place in
         let e = then_parts (field_in name) (slice_get (the_table tree).classes j) n.0 found.found in
-        let i = map_of (λ i. e.0.first_field + i) (position (bytes_eq name) e.0.field_names) n.0 e.2 in
+        let i = map_parts (λ i. e.0.first_field + i) (position (bytes_eq name) e.0.field_names) n.0 e.2 in
         let C = class_known tree j e.0 e.1 in
         let p = place tree j C.0 C.1 in
         let mine = own j C.0 C.1 in
@@ -308,7 +307,7 @@ module _ (tree : ProgramTree) (P : Program) (b : IsBuilt tree P) where
     pub methods_agree : (c : ℕ) (name : List ℕ) (m : ℕ × MethodData) → method_named (the_table tree) c name ≡ Some m → IsMethodOf P c m
     methods_agree c name m h =
         let n = then_parts (numbered_method (the_table tree)) (method_number (the_table tree) c name) m h in
-        let d = map_of (λ d. (n.0, d)) (slice_get (the_table tree).methods n.0) m n.2 in
+        let d = map_parts (λ d. (n.0, d)) (slice_get (the_table tree).methods n.0) m n.2 in
         let low = found_low (own_method (the_table tree) name) c n.0 (λ k none. ap (option_and_then (number_of_own_method name)) none) n.1 in
         let found = line_named (the_table tree) in_line name c n.0 low n.1 in
         let x = before_mapped (method_entry (the_table tree).names) (methods_at 0 tree) n.0 found.method (ap (λ z. slice_get z n.0) (sym (method_entries (the_table tree).names 0 tree)) ∙ found.is) in

@@ -6,6 +6,7 @@ use Rattle.std.proofs.lemmas.List.Folds.{list_any-append}
 use Rattle.std.proofs.lemmas.Option.{slice_get-get_or, same_Some}
 use Rattle.std.proofs.lemmas.Slice.Eq.{bytes_eq-Decides}
 use Rattle.std.proofs.lemmas.Bool.{or_parts, and_parts}
+use Rattle.base.proofs.Options.{map_parts}
 use Rattle.paths.specs.Paths.{PathData}
 use Rattle.core_program.specs.declared.types.CoreType.{CoreType}
 use Rattle.core_program.specs.Core.{Program, Field, Method, Stmts}
@@ -22,7 +23,7 @@ use Rattle.typing.specs.Locks.{lock_rule}
 use Rattle.typing.specs.Stmts.{block_core}
 use Rattle.typing.specs.Programs.{all_there, guard_tree_path, field_node, method_scope, method_result, method_node, all_core_fields, all_core_methods, main_class, main_method, program_node, core_of}
 use Rattle.typing.specs.Classes.{is_final_in, inherited_count, all_classes}
-use Rattle.typing.proofs.Inversions.{both_of, map_of}
+use Rattle.typing.proofs.Inversions.{both_of}
 use Rattle.classes.proofs.Parts.{Each, nothing_at, mapped_at, before_mapped}
 use Rattle.typing.proofs.Parts.{any_position, there_are}
 use Rattle.typing.proofs.Places.{FieldAt, MethodAt, own_methods, fields_at, methods_at, field_entry, core_field, core_method, field_cores, method_cores}
@@ -39,7 +40,7 @@ pub record IsBuilt (tree : ProgramTree) (P : Program) : Type 0 where
 pub built : (tree : ProgramTree) (P : Program) → core_of tree ≡ Some P → IsBuilt tree P
 built tree P h =
     let t = table_of tree in
-    let p = map_of (program_node t) (both (all_there (all_core_fields t 0 tree)) (all_there (all_core_methods t 0 tree))) P h in
+    let p = map_parts (program_node t) (both (all_there (all_core_fields t 0 tree)) (all_there (all_core_methods t 0 tree))) P h in
     let q = both_of (all_there (all_core_fields t 0 tree)) (all_there (all_core_methods t 0 tree)) p.0 p.1 in
     subst (IsBuilt tree) p.2 (record {
       fields = sym (field_cores t 0 tree) ∙ there_are (all_core_fields t 0 tree) p.0.0 q.0;
@@ -63,7 +64,7 @@ pub record IsField (t : TableData) (P : Program) (n : ℕ) (d : FieldAt) : Type 
 
 abbrev pub field_is : (t : TableData) (P : Program) (n : ℕ) (d : FieldAt) (x : Field) → slice_get P.fields n ≡ Some x → core_field t d ≡ Some x → IsField t P n d
 field_is t P n d x is h =
-    let g = map_of (field_node t d.class d.index d.field) (guard_tree_path t d.class d.field.guard) x h in
+    let g = map_parts (field_node t d.class d.index d.field) (guard_tree_path t d.class d.field.guard) x h in
     record {
       field = x;
       is = is;
@@ -90,7 +91,7 @@ abbrev pub method_is : (t : TableData) (P : Program) (n : ℕ) (d : MethodAt) (x
 method_is t P n d x is h =
     let paths = all_there (map (λ l. gain (lock_rule t d.class (method_scope t d.method) l)) d.method.locks) in
     let stmts = block_core t d.class (method_result t d.method) (1 + length d.method.params) (method_scope t d.method) 0 d.method.body in
-    let p = map_of (method_node t d.class d.method) (both paths stmts) x h in
+    let p = map_parts (method_node t d.class d.method) (both paths stmts) x h in
     let q = both_of paths stmts p.0 p.1 in
     record { method = x; is = is; paths = p.0.0; stmts = p.0.1; locks = q.0; body = q.1; node = p.2 }
 

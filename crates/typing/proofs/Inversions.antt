@@ -1,5 +1,5 @@
 -- What rules gave tells what their parts gave.
-use Rattle.std.proofs.Common.{◌≡◌, Bool, true, false, Option, Some, None, is_none, Result, Ok, Err, refl, ap, option_map}
+use Rattle.std.proofs.Common.{◌≡◌, Bool, true, false, Option, Some, None, is_none, Result, Ok, Err, refl, ap}
 use Rattle.std.specs.Prelude.{ok_or}
 use Rattle.std.proofs.lemmas.Option.{same_Some}
 use Rattle.typing.specs.declared.fault.TypeFault.{TypeFault}
@@ -38,7 +38,3 @@ then_of (Err f) g b h = absurd cc
 pub ok_or_of : {A : Type 0} (o : Option A) (f : TypeFault) (a : A) → ok_or o f ≡ Ok a → o ≡ Some a
 ok_or_of (Some b) f a h = ap Some (same_ok b a h)
 ok_or_of None f a h = absurd cc
-
-pub map_of : {A B : Type 0} (f : A → B) (o : Option A) (b : B) → option_map f o ≡ Some b → (a : A) × (o ≡ Some a) × (f a ≡ b)
-map_of f (Some a) b h = (a, refl, same_Some (f a) b h)
-map_of f None b h = absurd cc

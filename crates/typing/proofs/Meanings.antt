@@ -31,8 +31,8 @@ use Rattle.typing.specs.Scopes.{variable, this_variable, scope_of_parameters}
 use Rattle.typing.specs.Rules.{class_of_core_type, field_of_class, numbered_field}
 use Rattle.typing.specs.Locks.{Reach, reach_of, one_field_further, lock_field, path_along, lock_end, root_rule, lock_rule}
 use Rattle.typing.specs.Classes.{inherited_count}
-use Rattle.base.proofs.Options.{then_parts}
-use Rattle.typing.proofs.Inversions.{same_ok, gain_of, demand_of, then_of, ok_or_of, map_of}
+use Rattle.base.proofs.Options.{then_parts, map_parts}
+use Rattle.typing.proofs.Inversions.{same_ok, gain_of, demand_of, then_of, ok_or_of}
 use Rattle.classes.proofs.Parts.{Each, each_at, mapped_at}
 use Rattle.base.proofs.Lists.{at_left}
 use Rattle.typing.proofs.Parts.{at_right, head_same, tail_same}
@@ -101,7 +101,7 @@ module _ (tree : ProgramTree) (whole : IsFaultless tree) where
   own_found : (k : ℕ) (ks : List ℕ) (name : List ℕ) (n : ℕ) → own_field t name k ≡ Some n → IsFoundField (k ∷ ks) name n
   own_found k ks name n h =
       let e = then_parts (field_in name) (slice_get t.classes k) n h in
-      let i = map_of (λ i. e.0.first_field + i) (position (bytes_eq name) e.0.field_names) n e.2 in
+      let i = map_parts (λ i. e.0.first_field + i) (position (bytes_eq name) e.0.field_names) n e.2 in
       let C = class_known tree k e.0 e.1 in
       let p = place tree k C.0 C.1 in
       let entry_is = same_entry tree k e.0 C.0 C.1 e.1 in
@@ -222,7 +222,7 @@ module _ (tree : ProgramTree) (whole : IsFaultless tree) where
         let in_class : d.0 ≡ r.class = same_number d.0 r.class (sym (class_in_of R.ty d.0 (ok_or_of (class_of_core_type R.ty) (NotALock at) d.0 d.1)) ∙ class_is) in
         let named = ok_or_of (field_of_class t d.0 n.text) (UnknownName n.at) f.0 d.2 in
         let m = then_parts (numbered_field t) (field_number t d.0 n.text) f.0 named in
-        let row = map_of (λ x. (m.0, x)) (slice_get t.fields m.0) f.0 m.2 in
+        let row = map_parts (λ x. (m.0, x)) (slice_get t.fields m.0) f.0 m.2 in
         let here = found_along (class_and_ancestors t d.0) n.text m.0 m.1 in
         let entry : slice_get t.fields m.0 ≡ Some (field_entry t.names here.field) = ap (λ z. slice_get z m.0) (field_entries start t.names 0 tree) ∙ mapped_at (field_entry t.names) (fields_at start 0 tree) m.0 here.field here.there in
         let data_is : field_entry t.names here.field ≡ row.0 = same_Some (field_entry t.names here.field) row.0 (sym entry ∙ row.1) in

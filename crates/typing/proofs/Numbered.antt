@@ -11,6 +11,7 @@ use Rattle.std.proofs.lemmas.Option.{none-some, same_Some, slice_get_within}
 use Rattle.std.proofs.lemmas.Slice.Eq.{bytes_eq-Decides}
 use Rattle.base.specs.Ancestors.{reaches}
 use Rattle.base.proofs.Lists.{at_either, at_left, get_below, get_right}
+use Rattle.base.proofs.Options.{map_parts}
 use Rattle.core_program.specs.Core.{Class}
 use Rattle.core_program.specs.Pairs.{KeptClass, is_own_of, own_named, part_above, is_own_in, named_in, is_own_up, nearest_named, has_or_inherits, runs_for, pairs_from, class_with_pairs, AreNamedOnce, AreOwned}
 use Rattle.core_program.proofs.NamedPlaces.{counted_from}
@@ -21,7 +22,6 @@ use Rattle.classes.proofs.Parts.{mapped_at, before_mapped}
 use Rattle.typing.specs.Classes.{runner, targets_from, class_core, all_classes}
 use Rattle.typing.specs.Kept.{AreNumbered, class_part, all_parts}
 use Rattle.typing.specs.Order.{IsOwnPart, IsLined}
-use Rattle.typing.proofs.Inversions.{map_of}
 use Rattle.typing.proofs.Lined.{part_there, parts_many}
 use Rattle.typing.proofs.Paired.{each_of, named_itself}
 
@@ -250,7 +250,7 @@ module _ (t : TableData) (lined : IsLined t) (numbers : List ℕ) (are : AreNumb
 
   own_of : (k n x : ℕ) (p : KeptClass) → slice_get parts k ≡ Some p → is_own_of n p ≡ true → slice_get numbers n ≡ Some x → (o : IsOwnOf k n) × (class_part t k o.class ≡ p)
   own_of k n x p part mine is =
-      let c = map_of (class_part t k) (slice_get t.classes k) p (sym (part_there t k) ∙ part) in
+      let c = map_parts (class_part t k) (slice_get t.classes k) p (sym (part_there t k) ∙ part) in
       let m = get_below t.methods n (let low = slice_get_within numbers n x is in omega (arith, low, long)) in (
         record {
           class = c.0;

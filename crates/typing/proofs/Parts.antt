@@ -4,11 +4,12 @@ use Rattle.std.specs.List.{list_any, position_or_len}
 use Rattle.std.proofs.lemmas.Option.{slice_get-map, same_Some}
 use Rattle.std.proofs.lemmas.List.Elements.{All-cons, All-nil}
 use Rattle.std.proofs.lemmas.Bool.Decides.{nat_tests}
+use Rattle.base.proofs.Options.{map_parts}
 use Rattle.classes.proofs.Parts.{Each}
 use Rattle.typing.specs.Rulings.{both}
 use Rattle.typing.specs.Programs.{all_there}
 use Rattle.typing.proofs.Complete.{front_empty, back_empty}
-use Rattle.typing.proofs.Inversions.{both_of, map_of}
+use Rattle.typing.proofs.Inversions.{both_of}
 
 -- ---- what holds of each part
 
@@ -62,7 +63,7 @@ pub there_are : {A : Type 0} (os : List (Option A)) (xs : List A) → all_there 
 there_are [] xs h = ap (map Some) (same_Some [] xs h)
 there_are {A} (o ∷ os) xs h =
     let cons : A × List A → List A = λ p. p.0 ∷ p.1 in
-    let p = map_of cons (both o (all_there os)) xs h in
+    let p = map_parts cons (both o (all_there os)) xs h in
     let q = both_of o (all_there os) p.0 p.1 in
     ap₂ (λ x y. x ∷ y) q.0 (there_are os p.0.1 q.1) ∙ ap (map Some) p.2
 

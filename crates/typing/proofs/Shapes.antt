@@ -1,6 +1,7 @@
 -- How large the core node of an expression is, and whether it is the literal `true`.
 use Rattle.std.proofs.Common.{◌≡◌, ℕ, ◌+◌, ◌≤◌, max, Bool, false, Some, Ok, refl, subst, ◌&&◌, arith, option_map}
 use Rattle.std.proofs.lemmas.Option.{same_Some}
+use Rattle.base.proofs.Options.{map_parts}
 use Rattle.syntax.specs.declared.tree.Name.{Name}
 use Rattle.syntax.specs.declared.tree.Op.{Op}
 use Rattle.syntax.specs.declared.tree.Op.TheVariants as O
@@ -22,7 +23,7 @@ use Rattle.typing.specs.Scopes.{Scope, variable}
 use Rattle.typing.specs.Completion.{is_true_tree}
 use Rattle.typing.specs.Rules.{TypedData, TypedList, typed, with_argument, is_int, is_boolean, number_rule, variable_typed, not_rule, neg_rule, operator_rule, logical_rule, binary_rule, field_rule, method_rule, get_rule, call_rule, class_rule, new_rule, fit_each, final_types, declared_parameter_types}
 use Rattle.typing.specs.Exprs.{elaborated, elaborated_each, variable_rule}
-use Rattle.typing.proofs.Inversions.{same_ok, gain_of, given_of, both_of, demand_of, then_of, ok_or_of, map_of}
+use Rattle.typing.proofs.Inversions.{same_ok, gain_of, given_of, both_of, demand_of, then_of, ok_or_of}
 
 abbrev mutual
   -- how many nodes an expression's core node has at most
@@ -59,7 +60,7 @@ module _ (t : TableData) (class : ℕ) (scope : Scope) where
       → IsShape h n b p.0.node → IsShape k m c p.1.node → operator_rule t op at p ≡ Ok d → IsShape (1 + max h k) (1 + (n + m)) false d.node
   operator_shape h k n m b c op at p d x y is =
       let make : NodeType → TypedData = λ ty. typed ty (core.BinaryE op p.0.node p.1.node) in
-      let o = map_of make (binary_type (is_of_kind t) op p.0.ty p.1.ty) d (ok_or_of (option_map make (binary_type (is_of_kind t) op p.0.ty p.1.ty)) (NoRule at) d is) in
+      let o = map_parts make (binary_type (is_of_kind t) op p.0.ty p.1.ty) d (ok_or_of (option_map make (binary_type (is_of_kind t) op p.0.ty p.1.ty)) (NoRule at) d is) in
       subst (λ z. IsShape (1 + max h k) (1 + (n + m)) false z.node) o.2 (record {
         height = omega (arith, max_mono (height_of p.0.node) (height_of p.1.node) h k x.height y.height);
         nodes = omega (arith, x.nodes, y.nodes);
@@ -131,7 +132,7 @@ module _ (t : TableData) (class : ℕ) (scope : Scope) where
     expr_shape (tree.NullE at) d h = subst (λ z. IsShape 1 1 false z.node) (same_Some _ d h) (record { height = omega arith; nodes = omega arith; literal = refl })
     expr_shape (tree.ThisE at) d h = subst (λ z. IsShape 1 1 false z.node) (same_Some _ d h) (record { height = omega arith; nodes = omega arith; literal = refl })
     expr_shape (tree.VarE n) d h =
-        let o = map_of variable_typed (variable scope n.text) d (ok_or_of (option_map variable_typed (variable scope n.text)) (UnknownName n.at) d (gain_of (variable_rule scope n) d h)) in
+        let o = map_parts variable_typed (variable scope n.text) d (ok_or_of (option_map variable_typed (variable scope n.text)) (UnknownName n.at) d (gain_of (variable_rule scope n) d h)) in
         subst (λ z. IsShape 1 1 false z.node) o.2 (record { height = omega arith; nodes = omega arith; literal = refl })
     expr_shape (tree.ParenE e at) d h =
         let s = expr_shape e d h in
@@ -172,7 +173,7 @@ module _ (t : TableData) (class : ℕ) (scope : Scope) where
     pub each_shape : (es : ExprTrees) (l : TypedList) → elaborated_each t class scope es ≡ Some l → AreShapes (tree_height.heights es) (sizes es) l.nodes
     each_shape no_exprs l h = subst (λ z. AreShapes 0 0 z.nodes) (same_Some _ l h) (record { height = omega arith; nodes = omega arith })
     each_shape (more_exprs e es) l h =
-        let g = map_of with_argument (both (elaborated t class scope e) (elaborated_each t class scope es)) l h in
+        let g = map_parts with_argument (both (elaborated t class scope e) (elaborated_each t class scope es)) l h in
         let p = both_of (elaborated t class scope e) (elaborated_each t class scope es) g.0 g.1 in
         let s = expr_shape e g.0.0 p.0 in
         let u = each_shape es g.0.1 p.1 in

@@ -9,6 +9,7 @@ use Rattle.std.proofs.lemmas.List.Quantifiers.{position-Some}
 use Rattle.std.proofs.lemmas.Option.{slice_get_within, slice_get-map, same_Some, none-some}
 use Rattle.base.specs.Ancestors.{IsAncestor}
 use Rattle.base.proofs.Lists.{get_right, at_either, get_below}
+use Rattle.base.proofs.Options.{map_parts}
 use Rattle.paths.specs.Paths.{PathData}
 use Rattle.core_program.specs.Core.{Program, Class, Field}
 use Rattle.core_program.specs.Dispatch.{class_fields, inherited_fields}
@@ -34,7 +35,7 @@ use Rattle.typing.specs.Order.{IsLined}
 use Rattle.typing.specs.Programs.{guard_tree_path}
 use Rattle.typing.proofs.Agreement.{first, own_numbers, own_reads, numbers, field_there, core_class, classes_many, methods_owned, core_above, core_long, kinds_same, filter_both, fields_agree, methods_agree, classes_agree}
 use Rattle.typing.proofs.Built.{IsBuilt, field_is, none_final}
-use Rattle.typing.proofs.Inversions.{gain_of, map_of}
+use Rattle.typing.proofs.Inversions.{gain_of}
 use Rattle.typing.proofs.Lined.{fields_are, fields_on, fields_top}
 use Rattle.typing.proofs.Overridden.{entry_there}
 use Rattle.typing.proofs.Paired.{are_targets}
@@ -131,13 +132,13 @@ module _ (tree : ProgramTree) (P : Program) (b : IsBuilt tree P) (whole : IsFaul
   guard_is_lock : (k : ℕ) (guard : Option LockTree) (g : Option PathData) → guard_tree_path t k guard ≡ Some g → IfSome g (IsLock P k [])
   guard_is_lock k None g h = subst (λ z. IfSome z (IsLock P k [])) (same_Some None g h) tt
   guard_is_lock k (Some l) g h =
-      let p = map_of Some (gain (lock_rule t k [] l)) g h in
+      let p = map_parts Some (gain (lock_rule t k [] l)) g h in
       subst (λ z. IfSome z (IsLock P k [])) p.2
       (lock_holds t P agrees k [] [] no_more_seen l p.0 (gain_of (lock_rule t k [] l) p.0 p.1))
 
   guard_kept : (k : ℕ) (guard : Option LockTree) (g : Option PathData) → IsSome guard → guard_tree_path t k guard ≡ Some g → IsSome g
   guard_kept k None g some h = absurd (let e : false ≡ true = some in cc)
-  guard_kept k (Some l) g some h = let p = map_of Some (gain (lock_rule t k [] l)) g h in subst (λ z. IsSome z) p.2 refl
+  guard_kept k (Some l) g some h = let p = map_parts Some (gain (lock_rule t k [] l)) g h in subst (λ z. IsSome z) p.2 refl
 
   -- a field of a class by its place among the class's own
   record IsOwnField (c : ℕ) (C : ClassTree) (at : slice_get tree c ≡ Some C) (f : ℕ) (d : FieldAt) : Type 0 where

@@ -3,6 +3,7 @@ use Rattle.std.proofs.Common.{◌≡◌, ℕ, ◌<◌, true, false, List, [], �
 use Rattle.std.specs.Prelude.{ok_or}
 use Rattle.std.proofs.lemmas.Option.{same_Some}
 use Rattle.std.proofs.lemmas.Bool.{and_parts}
+use Rattle.base.proofs.Options.{map_parts}
 use Rattle.syntax.specs.declared.tree.Name.{Name}
 use Rattle.syntax.specs.declared.tree.Op.{Op}
 use Rattle.syntax.specs.declared.tree.Op.TheVariants as O
@@ -26,7 +27,7 @@ use Rattle.typing.specs.Rulings.{both, demand}
 use Rattle.typing.specs.Scopes.{Scope, variable}
 use Rattle.typing.specs.Rules.{TypedData, TypedList, typed, with_argument, is_int, is_boolean, class_of_core_type, receiver_class, number_rule, variable_typed, not_rule, neg_rule, operator_rule, logical_rule, binary_rule, field_of_class, method_named, field_rule, method_rule, get_rule, call_rule, class_rule, new_rule, fit_each, final_types, declared_parameter_types}
 use Rattle.typing.specs.Exprs.{elaborated, elaborated_each, variable_rule}
-use Rattle.typing.proofs.Inversions.{same_ok, gain_of, given_of, both_of, demand_of, then_of, ok_or_of, map_of}
+use Rattle.typing.proofs.Inversions.{same_ok, gain_of, given_of, both_of, demand_of, then_of, ok_or_of}
 
 -- ---- what a table tells of a core program
 
@@ -155,7 +156,7 @@ module _ (t : TableData) (P : Program) (agrees : Agrees t P) where
     operator_holds : (op : CoreOp) (at : ℕ) (p : TypedData × TypedData) (d : TypedData) → Holds p.0 → Holds p.1 → operator_rule t op at p ≡ Ok d → Holds d
     operator_holds op at p d h k is =
         let make : NodeType → TypedData = λ ty. typed ty (core.BinaryE op p.0.node p.1.node) in
-        let o = map_of make (binary_type (is_of_kind t) op p.0.ty p.1.ty) d (ok_or_of (option_map make (binary_type (is_of_kind t) op p.0.ty p.1.ty)) (NoRule at) d is) in
+        let o = map_parts make (binary_type (is_of_kind t) op p.0.ty p.1.ty) d (ok_or_of (option_map make (binary_type (is_of_kind t) op p.0.ty p.1.ty)) (NoRule at) d is) in
         subst Holds o.2 (p.0.ty, p.1.ty, h, k, binary_more (is_of_kind t) (is_kind_of P) wider op p.0.ty p.1.ty o.0 o.1)
 
     and_holds : (at : ℕ) (p : TypedData × TypedData) (d : TypedData) → Holds p.0 → Holds p.1 → logical_rule core.AndE at p ≡ Ok d → Holds d
@@ -223,7 +224,7 @@ module _ (t : TableData) (P : Program) (agrees : Agrees t P) where
     module _ (scope : Scope) (seen : Seen scope vars) where
       variable_holds : (n : Name) (d : TypedData) → variable_rule scope n ≡ Ok d → Holds d
       variable_holds n d is =
-          let o = map_of variable_typed (variable scope n.text) d (ok_or_of (option_map variable_typed (variable scope n.text)) (UnknownName n.at) d is) in
+          let o = map_parts variable_typed (variable scope n.text) d (ok_or_of (option_map variable_typed (variable scope n.text)) (UnknownName n.at) d is) in
           subst Holds o.2 (seen.seen n.text o.0 o.1, refl)
 
       mutual
@@ -260,6 +261,6 @@ module _ (t : TableData) (P : Program) (agrees : Agrees t P) where
         pub each_holds : (es : ExprTrees) (l : TypedList) → elaborated_each t class scope es ≡ Some l → HoldEach l.nodes l.types
         each_holds no_exprs l h = subst (λ z. HoldEach z.nodes z.types) (same_Some _ l h) tt
         each_holds (more_exprs e es) l h =
-            let g = map_of with_argument (both (elaborated t class scope e) (elaborated_each t class scope es)) l h in
+            let g = map_parts with_argument (both (elaborated t class scope e) (elaborated_each t class scope es)) l h in
             let p = both_of (elaborated t class scope e) (elaborated_each t class scope es) g.0 g.1 in
             subst (λ z. HoldEach z.nodes z.types) g.2 (expr_holds e g.0.0 p.0, each_holds es g.0.1 p.1)

@@ -34,11 +34,12 @@ use Rattle.typing.specs.Programs.{all_there, ascending, method_scope, method_res
 use Rattle.typing.proofs.Agreement.{core_class, classes_many}
 use Rattle.typing.proofs.Built.{IsBuilt, built, method_is, place_of_name}
 use Rattle.typing.proofs.Complete.{back_empty}
-use Rattle.typing.proofs.Inversions.{gain_of, both_of, map_of}
+use Rattle.typing.proofs.Inversions.{gain_of, both_of}
 use Rattle.typing.proofs.Overridden.{entry_there, overriding_alike}
 use Rattle.classes.proofs.Parts.{Each, each_at, mapped_at}
 use Rattle.typing.proofs.Parts.{all_of, there_are, part_at, as_many, head_same, tail_same}
 use Rattle.base.proofs.Lists.{get_below}
+use Rattle.base.proofs.Options.{map_parts}
 use Rattle.typing.proofs.PathsInOrder.{each_ascending, sorted_ascending}
 use Rattle.typing.proofs.Places.{MethodAt, fields_at, methods_at, core_field, core_method, method_classes_between}
 use Rattle.typing.proofs.Spelled.{program_long}
@@ -141,7 +142,7 @@ module _ (tree : ProgramTree) (P : Program) (b : IsBuilt tree P) (whole : IsFaul
   body_long d x h =
       let paths = all_there (map (λ l. gain (lock_rule t d.class (method_scope t d.method) l)) d.method.locks) in
       let stmts = block_core t d.class (method_result t d.method) (1 + length d.method.params) (method_scope t d.method) 0 d.method.body in
-      let p = map_of (method_node t d.class d.method) (both paths stmts) x h in
+      let p = map_parts (method_node t d.class d.method) (both paths stmts) x h in
       let fine = body_fine d p.0.1 (both_of paths stmts p.0 p.1).1 in
       subst (λ z. stmt_nodes z.body ≤ 1 + stmt_sizes d.method.body) p.2 (omega (arith, fine.nodes))
 

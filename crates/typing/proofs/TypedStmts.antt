@@ -4,7 +4,7 @@ use Rattle.std.specs.Prelude.{ok_or}
 use Rattle.std.proofs.lemmas.Bool.Decides.{nat_tests}
 use Rattle.std.proofs.lemmas.Option.{slice_get_within, same_Some}
 use Rattle.std.proofs.lemmas.Bool.{not-true}
-use Rattle.base.proofs.Options.{if_taken}
+use Rattle.base.proofs.Options.{if_taken, map_parts}
 use Rattle.syntax.specs.declared.tree.Name.{Name}
 use Rattle.syntax.specs.declared.tree.TypeName.{TypeName}
 use Rattle.syntax.specs.declared.tree.TypeName.TheVariants as Y
@@ -31,7 +31,7 @@ use Rattle.typing.specs.Locks.{lock_rule}
 use Rattle.typing.specs.Exprs.{elaborated}
 use Rattle.typing.specs.Completion.{completes, completes_each, is_true_tree, locals_in, locals_in_each}
 use Rattle.typing.specs.Stmts.{local_rule, target_rule, set_rule, field_target, put_rule, do_rule, condition_rule, return_rule, value_rule, print_rule, counts_runnable, is_runnable, start_rule, declared, if_node, scope_after, stmt_core, block_core}
-use Rattle.typing.proofs.Inversions.{same_ok, gain_of, given_of, none_of, both_of, demand_of, then_of, ok_or_of, map_of}
+use Rattle.typing.proofs.Inversions.{same_ok, gain_of, given_of, none_of, both_of, demand_of, then_of, ok_or_of}
 use Rattle.typing.proofs.TypedExprs.{Agrees, Seen, wider, is_int_of, is_boolean_of, receiver_of, field_of, expr_holds}
 use Rattle.typing.proofs.TypedLocks.{lock_holds}
 use Rattle.typing.proofs.Shapes.{max_mono, size, IsShape, expr_shape}
@@ -53,7 +53,7 @@ module _ (t : TableData) (P : Program) (agrees : Agrees t P) (class : ℕ) (retu
   type_is Y.Int u h = subst (IsType P) (same_ok type.Int u h) tt
   type_is Y.Boolean u h = subst (IsType P) (same_ok type.Boolean u h) tt
   type_is (Y.Class n) u h =
-      let c = map_of type.Class (class_number t n.text) u (ok_or_of (option_map type.Class (class_number t n.text)) (UnknownName n.at) u h) in
+      let c = map_parts type.Class (class_number t n.text) u (ok_or_of (option_map type.Class (class_number t n.text)) (UnknownName n.at) u h) in
       let made = agrees.classes c.0 n.text c.1 in
       subst (IsType P) c.2 (slice_get_within P.classes c.0 made.class made.is)
 
@@ -282,7 +282,7 @@ module _ (t : TableData) (P : Program) (agrees : Agrees t P) (class : ℕ) (retu
         subst (IsFine scope vars before (tree.EmptyS at)) (same_Some core.EmptyS n h)
         (record { is_typed = tt; declares = refl; ends = refl; height = omega arith; nodes = omega arith; low = λ b. omega (arith, b); later = seen })
     stmt_fine scope vars seen before (tree.BlockS ss at) n h =
-        let b = map_of core.BlockS (block_core t class returns first scope before ss) n h in
+        let b = map_parts core.BlockS (block_core t class returns first scope before ss) n h in
         let k = block_fine scope vars seen before ss b.0 b.1 in
         subst (IsFine scope vars before (tree.BlockS ss at)) b.2 (record {
           is_typed = k.are_typed;
@@ -300,7 +300,7 @@ module _ (t : TableData) (P : Program) (agrees : Agrees t P) (class : ℕ) (retu
     stmt_fine scope vars seen before (tree.IfS c s at) n h =
         let condition = ruled (condition_rule at) (elaborated t class scope c) in
         let one = stmt_core t class returns first scope before s in
-        let g = map_of (λ p. core.IfS p.0 p.1 core.EmptyS) (both condition one) n h in
+        let g = map_parts (λ p. core.IfS p.0 p.1 core.EmptyS) (both condition one) n h in
         let p = both_of condition one g.0 g.1 in
         let a = condition_fine scope vars seen c at g.0.0 p.0 in
         let k = stmt_fine scope vars seen before s g.0.1 p.1 in
@@ -317,7 +317,7 @@ module _ (t : TableData) (P : Program) (agrees : Agrees t P) (class : ℕ) (retu
         let condition = ruled (condition_rule at) (elaborated t class scope c) in
         let one = stmt_core t class returns first scope before s in
         let other = stmt_core t class returns first scope (before + locals_in s) u in
-        let g = map_of if_node (both condition (both one other)) n h in
+        let g = map_parts if_node (both condition (both one other)) n h in
         let p = both_of condition (both one other) g.0 g.1 in
         let q = both_of one other g.0.1 p.1 in
         let a = condition_fine scope vars seen c at g.0.0 p.0 in
@@ -340,7 +340,7 @@ module _ (t : TableData) (P : Program) (agrees : Agrees t P) (class : ℕ) (retu
     stmt_fine scope vars seen before (tree.WhileS c s at) n h =
         let condition = ruled (condition_rule at) (elaborated t class scope c) in
         let one = stmt_core t class returns first scope before s in
-        let g = map_of (λ p. core.WhileS p.0 p.1) (both condition one) n h in
+        let g = map_parts (λ p. core.WhileS p.0 p.1) (both condition one) n h in
         let p = both_of condition one g.0 g.1 in
         let a = condition_fine scope vars seen c at g.0.0 p.0 in
         let k = stmt_fine scope vars seen before s g.0.1 p.1 in
@@ -356,7 +356,7 @@ module _ (t : TableData) (P : Program) (agrees : Agrees t P) (class : ℕ) (retu
     stmt_fine scope vars seen before (tree.SyncS l ss at) n h =
         let lock = gain (lock_rule t class scope l) in
         let body = block_core t class returns first scope before ss in
-        let g = map_of (λ p. core.SyncS p.0 (core.BlockS p.1)) (both lock body) n h in
+        let g = map_parts (λ p. core.SyncS p.0 (core.BlockS p.1)) (both lock body) n h in
         let p = both_of lock body g.0 g.1 in
         let k = block_fine scope vars seen before ss g.0.1 p.1 in
         subst (IsFine scope vars before (tree.SyncS l ss at)) g.2 (record {
@@ -381,7 +381,7 @@ module _ (t : TableData) (P : Program) (agrees : Agrees t P) (class : ℕ) (retu
     block_fine scope vars seen before (more_stmts s ss) ns h =
         let one = stmt_core t class returns first scope before s in
         let rest = block_core t class returns first (scope_after t class returns first scope before s) (before + locals_in s) ss in
-        let g = map_of (λ p. core.and_stmt p.0 p.1) (both one rest) ns h in
+        let g = map_parts (λ p. core.and_stmt p.0 p.1) (both one rest) ns h in
         let p = both_of one rest g.0 g.1 in
         let k = stmt_fine scope vars seen before s g.0.0 p.0 in
         let l = block_fine (scope_after t class returns first scope before s) (typing.variables_after g.0.0 vars) k.later (before + locals_in s) ss g.0.1 p.1 in
