@@ -183,12 +183,18 @@ class Make(InPath):
 
     def test_what_has_not_changed_is_not_asked_again(self) -> None:
         self.write("work/f.java", ACCEPTED)
+        self.set_age("work/f.java", 9)
         self.shell("make checked", self.more)
         os.unlink(self.path("bin/atomic_why"))
         self.script("bin/atomic_why", "echo asked; exit 2")
         self.assertEqual((0, ""), self.shell("make checked", self.more)[:2])
-        os.utime(self.path("work/f.java"), (time.time() + 9, time.time() + 9))
+        self.set_age("work/f.java", -9)
         self.assertEqual((2, "asked\n"), self.shell("make checked", self.more)[:2])
+
+    def set_age(self, name: str, seconds: int) -> None:
+        """Sets when a file was changed: what is written within one tick of the clock has the same time."""
+        then = time.time() - seconds
+        os.utime(self.path(name), (then, then))
 
 
 class Completion(InFolder):
