@@ -22,6 +22,10 @@ finals      classes in a line, each of which assigns a final field of the first 
 fresh       classes in a line, each of which has a method with a name of its own
 wide        a class with many methods, and one that overrides them all
 line        classes in a line, each of which overrides a method with a lock
+bad         the same with an empty method, which the last one alone overrides with a result (refused)
+all_bad     the same, where each but the first has a result (refused)
+apart       classes as in fresh, and one by itself that has methods of these names with a result
+fields      classes in a line, each of which has a field (refused)
 sets_calls  methods that call each other, called at each part of eight locks
 sets_rise   methods that are called under more and more levels
 deep        classes in a line, where a loop calls the first one's method on an object of the last
@@ -53,6 +57,7 @@ HELD = "final L h;e{0}(L h){{this.h=h;}}void f(final X x){{synchronized(this.h){
 LAST_RISING = f"class Last{{atomic void last(final X x){{x.s{WAVES - 1}();}}}}\n"
 RUN_COMMANDS = ["run", "serialise", "serialise-open", "replay"]
 SCHEDULE = b"0*200000\n"
+RESULT = "int f(){return 1;}"
 Family = Callable[[int], str]
 
 
@@ -178,6 +183,23 @@ def fresh(count: int) -> str:
     return MAIN + "".join(heirs(count, lambda k: f"void f{k}(){{}}"))
 
 
+def bad(count: int) -> str:
+    return MAIN + "".join(heirs(count, lambda k: RESULT if k == count - 1 else "void f(){}"))
+
+
+def all_bad(count: int) -> str:
+    return MAIN + "".join(heirs(count, lambda k: RESULT if k else "void f(){}"))
+
+
+def apart(count: int) -> str:
+    other = "".join(f"int f{k}(){{return 1;}}" for k in range(count))
+    return f"{fresh(count)}class C{{{other}}}\n"
+
+
+def fields(count: int) -> str:
+    return MAIN + "".join(heirs(count, lambda k: f"int a{k};"))
+
+
 def wide(count: int) -> str:
     methods = "".join(f"void f{k}(){{}}" for k in range(count))
     return MAIN + "".join(heirs(2, lambda k: methods))
@@ -236,6 +258,10 @@ FAMILIES: dict[str, Family] = {
     "fresh": fresh,
     "wide": wide,
     "line": line,
+    "bad": bad,
+    "all_bad": all_bad,
+    "apart": apart,
+    "fields": fields,
     "sets_calls": make_checked.sets_calls,
     "sets_rise": make_checked.sets_rise,
     **RUN_FAMILIES,

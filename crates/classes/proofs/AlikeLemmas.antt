@@ -13,7 +13,7 @@ use Rattle.classes.specs.Overriding.{FieldPlace, LockMeaning, Signature, Heading
 use Rattle.classes.specs.Faults.{override_faults}
 use Rattle.classes.specs.declared.fault.ClassFault.TheVariants.{BadOverride}
 use Rattle.classes.specs.Families.{row_in, class_headings}
-use Rattle.classes.specs.Alike.{same_name, is_alike, alike_if_named, alike_above, all_alike, rows_alike, AreAllAlike}
+use Rattle.classes.specs.Alike.{same_name, is_alike, alike_if_named, alike_above, alike_or, fits_pattern, has_pattern, AreFitting, overrides_well, all_override_well, rows_override_well, AllOverrideWell}
 
 wrong : {X : Type 0} → false ≡ true → X
 wrong e = absurd (let f : false ≡ true = e in cc)
@@ -106,7 +106,7 @@ among_chain (r ∷ rs) ss ts first second =
     let both = and_parts (list_any (is_same_lock r) ss) (are_among rs ss) first in
     and_from (list_any (is_same_lock r) ts) (are_among rs ts) (one_among r ss ts both.0 second) (among_chain rs ss ts both.1 second)
 
-locks_chain : (a b c : Option (List LockMeaning)) → is_some b ≡ true → same_where_known a b ≡ true → same_where_known b c ≡ true → same_where_known a c ≡ true
+locks_chain : (a b c : Option (List LockMeaning)) → (is_some b || not (is_some a)) ≡ true → same_where_known a b ≡ true → same_where_known b c ≡ true → same_where_known a c ≡ true
 locks_chain None b c known first second = refl
 locks_chain (Some rs) None c known first second = wrong known
 locks_chain (Some rs) (Some ss) None known first second = refl
@@ -115,8 +115,8 @@ locks_chain (Some rs) (Some ss) (Some ts) known first second =
     let b = and_parts (are_among ss ts) (are_among ts ss) second in
     and_from (are_among rs ts) (are_among ts rs) (among_chain rs ss ts a.0 b.0) (among_chain ts ss rs b.1 a.1)
 
--- what has the signature of one with known locks has that of whatever that has it of
-signature_chain : (m n o : Signature) → is_some n.locks ≡ true → is_same_signature m n ≡ true → is_same_signature n o ≡ true → is_same_signature m o ≡ true
+-- what has the signature of one, whose locks are known where its own are, has that of whatever that has it of
+signature_chain : (m n o : Signature) → (is_some n.locks || not (is_some m.locks)) ≡ true → is_same_signature m n ≡ true → is_same_signature n o ≡ true → is_same_signature m o ≡ true
 signature_chain m n o known first second =
     let a = and_parts (are_alike m.params n.params) (is_same_result m.returns n.returns && (same_mark m.atomic n.atomic && same_where_known m.locks n.locks)) first in
     let b = and_parts (is_same_result m.returns n.returns) (same_mark m.atomic n.atomic && same_where_known m.locks n.locks) a.1 in
@@ -127,6 +127,61 @@ signature_chain m n o known first second =
     and_from (are_alike m.params o.params) (is_same_result m.returns o.returns && (same_mark m.atomic o.atomic && same_where_known m.locks o.locks)) (params_chain m.params n.params o.params a.0 d.0)
     (and_from (is_same_result m.returns o.returns) (same_mark m.atomic o.atomic && same_where_known m.locks o.locks) (result_chain m.returns n.returns o.returns b.0 e.0)
     (and_from (same_mark m.atomic o.atomic) (same_where_known m.locks o.locks) (mark_chain m.atomic n.atomic o.atomic c.0 f.0) (locks_chain m.locks n.locks o.locks known c.1 f.1)))
+
+-- ---- the other way round
+
+bytes_back : (xs ys : List ℕ) → bytes_eq xs ys ≡ true → bytes_eq ys xs ≡ true
+bytes_back xs ys e = subst (λ l. bytes_eq ys l ≡ true) (sym ((bytes_eq-Decides xs ys).0 e)) ((bytes_eq-Decides ys ys).1 refl)
+
+mark_back : (a b : Bool) → same_mark a b ≡ true → same_mark b a ≡ true
+mark_back true true same = refl
+mark_back true false same = wrong same
+mark_back false true same = wrong same
+mark_back false false same = refl
+
+type_back : (t u : TypeName) → is_same_type t u ≡ true → is_same_type u t ≡ true
+type_back Y.Int Y.Int same = refl
+type_back Y.Int Y.Boolean same = wrong same
+type_back Y.Int (Y.Class n) same = wrong same
+type_back Y.Boolean Y.Int same = wrong same
+type_back Y.Boolean Y.Boolean same = refl
+type_back Y.Boolean (Y.Class n) same = wrong same
+type_back (Y.Class m) Y.Int same = wrong same
+type_back (Y.Class m) Y.Boolean same = wrong same
+type_back (Y.Class m) (Y.Class n) same = bytes_back m.text n.text same
+
+result_back : (t u : Option TypeName) → is_same_result t u ≡ true → is_same_result u t ≡ true
+result_back None None same = refl
+result_back None (Some u) same = wrong same
+result_back (Some t) None same = wrong same
+result_back (Some t) (Some u) same = type_back t u same
+
+params_back : (ps qs : List Param) → are_alike ps qs ≡ true → are_alike qs ps ≡ true
+params_back [] [] same = refl
+params_back [] (q ∷ qs) same = wrong same
+params_back (p ∷ ps) [] same = wrong same
+params_back (p ∷ ps) (q ∷ qs) same =
+    let a = and_parts (same_mark p.is_final q.is_final) (is_same_type p.ty q.ty && are_alike ps qs) same in
+    let b = and_parts (is_same_type p.ty q.ty) (are_alike ps qs) a.1 in
+    and_from (same_mark q.is_final p.is_final) (is_same_type q.ty p.ty && are_alike qs ps) (mark_back p.is_final q.is_final a.0)
+    (and_from (is_same_type q.ty p.ty) (are_alike qs ps) (type_back p.ty q.ty b.0) (params_back ps qs b.1))
+
+locks_back : (a b : Option (List LockMeaning)) → same_where_known a b ≡ true → same_where_known b a ≡ true
+locks_back None None same = refl
+locks_back None (Some ss) same = refl
+locks_back (Some rs) None same = refl
+locks_back (Some rs) (Some ss) same =
+    let both = and_parts (are_among rs ss) (are_among ss rs) same in
+    and_from (are_among ss rs) (are_among rs ss) both.1 both.0
+
+signature_back : (m n : Signature) → is_same_signature m n ≡ true → is_same_signature n m ≡ true
+signature_back m n same =
+    let a = and_parts (are_alike m.params n.params) (is_same_result m.returns n.returns && (same_mark m.atomic n.atomic && same_where_known m.locks n.locks)) same in
+    let b = and_parts (is_same_result m.returns n.returns) (same_mark m.atomic n.atomic && same_where_known m.locks n.locks) a.1 in
+    let c = and_parts (same_mark m.atomic n.atomic) (same_where_known m.locks n.locks) b.1 in
+    and_from (are_alike n.params m.params) (is_same_result n.returns m.returns && (same_mark n.atomic m.atomic && same_where_known n.locks m.locks)) (params_back m.params n.params a.0)
+    (and_from (is_same_result n.returns m.returns) (same_mark n.atomic m.atomic && same_where_known n.locks m.locks) (result_back m.returns n.returns b.0)
+    (and_from (same_mark n.atomic m.atomic) (same_where_known n.locks m.locks) (mark_back m.atomic n.atomic c.0) (locks_back m.locks n.locks c.1)))
 
 -- ---- methods that don't clash
 
@@ -144,14 +199,11 @@ AlikeAlong methods m (c ∷ cs) = Alike m (methods c) × AlikeAlong methods m cs
 through : (m n : Heading) (os : List Heading) → same_name m n ≡ true → is_alike m n ≡ true → Alike n os → Alike m os
 through m n [] named alike all = tt
 through m n (o ∷ os) named alike all =
-    let both = and_parts (is_same_signature m.signature n.signature) (is_some n.signature.locks) alike in (
+    let both = and_parts (is_same_signature m.signature n.signature) (is_some n.signature.locks || not (is_some m.signature.locks)) alike in (
       (λ same. signature_chain m.signature n.signature o.signature both.1 both.0
-          (all.0 (bytes_chain n.name.text m.name.text o.name.text (back m.name.text n.name.text named) same))),
+          (all.0 (bytes_chain n.name.text m.name.text o.name.text (bytes_back m.name.text n.name.text named) same))),
       through m n os named alike all.1,
     )
-  where
-    back : (xs ys : List ℕ) → bytes_eq xs ys ≡ true → bytes_eq ys xs ≡ true
-    back xs ys e = subst (λ l. bytes_eq ys l ≡ true) (sym ((bytes_eq-Decides xs ys).0 e)) ((bytes_eq-Decides ys ys).1 refl)
 
 through_along : (methods : ℕ → List Heading) (m n : Heading) (cs : List ℕ) → same_name m n ≡ true → is_alike m n ≡ true → AlikeAlong methods n cs → AlikeAlong methods m cs
 through_along methods m n [] named alike all = tt
@@ -165,7 +217,7 @@ row_alike : (m : Heading) (ns : List Heading) → list_all (alike_if_named m) ns
 row_alike m [] all = tt
 row_alike m (n ∷ ns) all =
     let both = and_parts (alike_if_named m n) (list_all (alike_if_named m) ns) all in (
-      (λ named. (and_parts (is_same_signature m.signature n.signature) (is_some n.signature.locks) (if_named (same_name m n) (is_alike m n) both.0 named)).0),
+      (λ named. (and_parts (is_same_signature m.signature n.signature) (is_some n.signature.locks || not (is_some m.signature.locks)) (if_named (same_name m n) (is_alike m n) both.0 named)).0),
       row_alike m ns both.1,
     )
 
@@ -192,22 +244,61 @@ none_named m (n ∷ ns) none =
     let both = or_parts (same_name m n) (list_any (same_name m) ns) none in
     ((λ named. wrong (sym both.0 ∙ named)), none_named m ns both.1)
 
-module _ (methods : ℕ → List Heading) (up : ℕ → Option ℕ) (steps : ℕ) (each : (k : ℕ) → all_alike methods up steps (up k) (methods k) ≡ true) where
-  -- of a method that is alike with the nearest of its name from a class on
-  all_along : (k n : ℕ) (next : Option ℕ) (m : Heading) → alike_above methods up n next m ≡ true → AlikeAlong methods m (ancestors up k next)
-  all_along k n None m alike = tt
-  all_along zero n (Some c) m alike = tt
-  all_along (suc k) zero (Some c) m alike = wrong alike
-  all_along (suc k) (suc n) (Some c) m alike = by_name (list_any (same_name m) (methods c)) refl alike (all_along k n (up c) m) (all_along k steps (up c))
-    where
-      by_name : (b : Bool) → list_any (same_name m) (methods c) ≡ b → (if b then list_all (alike_if_named m) (methods c) else alike_above methods up n (up c) m) ≡ true
-          → (alike_above methods up n (up c) m ≡ true → AlikeAlong methods m (ancestors up k (up c)))
-          → ((o : Heading) → alike_above methods up steps (up c) o ≡ true → AlikeAlong methods o (ancestors up k (up c)))
-          → AlikeAlong methods m (c ∷ ancestors up k (up c))
-      by_name true has all further others =
-          let found = found_named (alike_above methods up steps (up c)) m (methods c) has all (each c) in
-          (row_alike m (methods c) all, through_along methods m found.other (ancestors up k (up c)) found.named found.alike (others found.other found.known))
-      by_name false none later further others = (none_named m (methods c) none, further later)
+-- ---- methods that something stands for
+
+-- what is alike with a method that all of some are alike with has the signature of these that have its name
+fitting : (pattern : List ℕ → Option Heading) (m n : Heading) (os : List Heading) → pattern m.name.text ≡ Some n → is_alike m n ≡ true
+    → list_all (fits_pattern pattern) os ≡ true → Alike m os
+fitting pattern m n [] stands alike all = tt
+fitting pattern m n (o ∷ os) stands alike all =
+    let both = and_parts (fits_pattern pattern o) (list_all (fits_pattern pattern) os) all in
+    let known = and_parts (is_same_signature m.signature n.signature) (is_some n.signature.locks || not (is_some m.signature.locks)) alike in (
+      (λ same.
+          let same_text : pattern o.name.text ≡ Some n = ap pattern (sym ((bytes_eq-Decides m.name.text o.name.text).0 same)) ∙ stands in
+          let other : is_alike o n ≡ true = ap (λ z. alike_or true z o) (sym same_text) ∙ both.0 in
+          let back = signature_back o.signature n.signature (and_parts (is_same_signature o.signature n.signature) (is_some n.signature.locks || not (is_some o.signature.locks)) other).0 in
+          signature_chain m.signature n.signature o.signature known.1 known.0 back),
+      fitting pattern m n os stands alike both.1,
+    )
+
+module _ (pattern : List ℕ → Option Heading) (methods : ℕ → List Heading) (fit : (k : ℕ) → list_all (fits_pattern pattern) (methods k) ≡ true) where
+  fitting_along : (m n : Heading) (cs : List ℕ) → pattern m.name.text ≡ Some n → is_alike m n ≡ true → AlikeAlong methods m cs
+  fitting_along m n [] stands alike = tt
+  fitting_along m n (c ∷ cs) stands alike = (fitting pattern m n (methods c) stands alike (fit c), fitting_along m n cs stands alike)
+
+  -- a method that something stands for has the signature of all of its name
+  pattern_along : (m : Heading) (cs : List ℕ) → has_pattern pattern m ≡ true → AlikeAlong methods m cs
+  pattern_along m cs has = by_pattern (pattern m.name.text) refl has where
+    by_pattern : (o : Option Heading) → pattern m.name.text ≡ o → alike_or false o m ≡ true → AlikeAlong methods m cs
+    by_pattern None is has = wrong has
+    by_pattern (Some n) is has = fitting_along m n cs is has
+
+  module _ (up : ℕ → Option ℕ) (steps : ℕ) (each : (k : ℕ) → all_override_well pattern methods up steps (up k) (methods k) ≡ true) where
+    -- of a method that is alike with the nearest of its name from a class on
+    all_along : (k n : ℕ) (next : Option ℕ) (m : Heading) → alike_above methods up n next m ≡ true → AlikeAlong methods m (ancestors up k next)
+    all_along k n None m alike = tt
+    all_along zero n (Some c) m alike = tt
+    all_along (suc k) zero (Some c) m alike = wrong alike
+    all_along (suc k) (suc n) (Some c) m alike = by_name (list_any (same_name m) (methods c)) refl alike (all_along k n (up c) m) (all_along k steps (up c))
+      where
+        by_name : (b : Bool) → list_any (same_name m) (methods c) ≡ b → (if b then list_all (alike_if_named m) (methods c) else alike_above methods up n (up c) m) ≡ true
+            → (alike_above methods up n (up c) m ≡ true → AlikeAlong methods m (ancestors up k (up c)))
+            → ((o : Heading) → alike_above methods up steps (up c) o ≡ true → AlikeAlong methods o (ancestors up k (up c)))
+            → AlikeAlong methods m (c ∷ ancestors up k (up c))
+        by_name true has all further others =
+            let found = found_named (overrides_well pattern methods up steps (up c)) m (methods c) has all (each c) in
+            let higher = elim (or_cases (has_pattern pattern found.other) (alike_above methods up steps (up c) found.other) found.known) as (λ _. AlikeAlong methods found.other (ancestors up k (up c))) [
+              | inl stands ↦ pattern_along found.other (ancestors up k (up c)) stands
+              | inr nearest ↦ others found.other nearest
+            ] in
+            (row_alike m (methods c) all, through_along methods m found.other (ancestors up k (up c)) found.named found.alike higher)
+        by_name false none later further others = (none_named m (methods c) none, further later)
+
+    well_along : (k n : ℕ) (next : Option ℕ) (m : Heading) → overrides_well pattern methods up n next m ≡ true → AlikeAlong methods m (ancestors up k next)
+    well_along k n next m well = elim (or_cases (has_pattern pattern m) (alike_above methods up n next m) well) as (λ _. AlikeAlong methods m (ancestors up k next)) [
+      | inl stands ↦ pattern_along m (ancestors up k next) stands
+      | inr nearest ↦ all_along k n next m nearest
+    ]
 
 -- ---- no faults
 
@@ -223,43 +314,65 @@ no_clash_along : (methods : ℕ → List Heading) (m : Heading) (cs : List ℕ) 
 no_clash_along methods m [] alike = refl
 no_clash_along methods m (c ∷ cs) alike = ap (λ b. b || overrides_badly methods cs m) (no_clash m (methods c) alike.0) ∙ no_clash_along methods m cs alike.1
 
-no_faults : (methods : ℕ → List Heading) (up : ℕ → Option ℕ) (steps k n : ℕ) (next : Option ℕ) → ((k : ℕ) → all_alike methods up steps (up k) (methods k) ≡ true)
-    → (ms : List Heading) → all_alike methods up n next ms ≡ true → override_faults methods (ancestors up k next) ms ≡ []
-no_faults methods up steps k n next each [] all = refl
-no_faults methods up steps k n next each (m ∷ ms) all =
-    let both = and_parts (alike_above methods up n next m) (all_alike methods up n next ms) all in
-    ap (λ b. if b then BadOverride m.name.at ∷ override_faults methods (ancestors up k next) ms else override_faults methods (ancestors up k next) ms) (no_clash_along methods m (ancestors up k next) (all_along methods up steps each k n next m both.0))
-    ∙ no_faults methods up steps k n next each ms both.1
+-- a method that something stands for overrides none badly
+pub stands_well : (pattern : List ℕ → Option Heading) (methods : ℕ → List Heading) (line : List ℕ) (m : Heading) → AreFitting pattern methods → has_pattern pattern m ≡ true → overrides_badly methods line m ≡ false
+stands_well pattern methods line m fit stands = no_clash_along methods m line (pattern_along pattern methods fit m line stands)
+
+no_faults : (pattern : List ℕ → Option Heading) (methods : ℕ → List Heading) (up : ℕ → Option ℕ) (steps k n : ℕ) (next : Option ℕ) → AreFitting pattern methods
+    → ((k : ℕ) → all_override_well pattern methods up steps (up k) (methods k) ≡ true)
+    → (ms : List Heading) → all_override_well pattern methods up n next ms ≡ true → override_faults methods (ancestors up k next) ms ≡ []
+no_faults pattern methods up steps k n next fit each [] all = refl
+no_faults pattern methods up steps k n next fit each (m ∷ ms) all =
+    let both = and_parts (overrides_well pattern methods up n next m) (all_override_well pattern methods up n next ms) all in
+    ap (λ b. if b then BadOverride m.name.at ∷ override_faults methods (ancestors up k next) ms else override_faults methods (ancestors up k next) ms) (no_clash_along methods m (ancestors up k next) (well_along pattern methods fit up steps each k n next m both.0))
+    ∙ no_faults pattern methods up steps k n next fit each ms both.1
 
 none_above : (methods : ℕ → List Heading) (ms : List Heading) → override_faults methods [] ms ≡ []
 none_above methods [] = refl
 none_above methods (m ∷ ms) = none_above methods ms
 
--- where each method is alike with the nearest of its name, no class has such a fault
-pub none_overrides_badly : (tree : ProgramTree) (methods : ℕ → List Heading) (line : List ℕ) (k : ℕ) → AreAllAlike tree methods → line ≡ ancestor_classes tree k → override_faults methods line (methods k) ≡ []
-none_overrides_badly tree methods line k each is = ap (λ l. override_faults methods l (methods k)) is ∙ by_circle (is_on_circle tree k)
+-- where each method overrides well, no class has such a fault
+pub none_overrides_badly : (tree : ProgramTree) (pattern : List ℕ → Option Heading) (methods : ℕ → List Heading) (k : ℕ) → AreFitting pattern methods → AllOverrideWell tree methods pattern → override_faults methods (ancestor_classes tree k) (methods k) ≡ []
+none_overrides_badly tree pattern methods k fit each = by_circle (is_on_circle tree k)
   where
     by_circle : (b : Bool) → override_faults methods (if b then [] else ancestors (above tree) (length tree) (above tree k)) (methods k) ≡ []
     by_circle true = none_above methods (methods k)
-    by_circle false = no_faults methods (above tree) (length tree) (length tree) (length tree) (above tree k) each (methods k) (each k)
+    by_circle false = no_faults pattern methods (above tree) (length tree) (length tree) (length tree) (above tree k) fit each (methods k) (each k)
 
--- ---- the rows so far
+-- on or below a circle, no class has one
+pub none_on_circle : (tree : ProgramTree) (methods : ℕ → List Heading) (k : ℕ) → is_on_circle tree k ≡ true → override_faults methods (ancestor_classes tree k) (methods k) ≡ []
+none_on_circle tree methods k circle = ap (λ b. override_faults methods (if b then [] else ancestors (above tree) (length tree) (above tree k)) (methods k)) circle ∙ none_above methods (methods k)
 
-rows_at : (methods : ℕ → List Heading) (up : ℕ → Option ℕ) (n k : ℕ) (rows : List (List Heading)) → rows_alike methods up n k rows ≡ true
-    → (j : ℕ) → all_alike methods up n (up (k + j)) (row_in (slice_get rows j)) ≡ true
-rows_at methods up n k [] all j = refl
-rows_at methods up n k (row ∷ rows) all zero =
-    let e0 : k ≡ k + 0 = omega arith in
-    subst (λ c. all_alike methods up n (up c) row ≡ true) e0 (and_parts (all_alike methods up n (up k) row) (rows_alike methods up n (k + 1) rows) all).0
-rows_at methods up n k (row ∷ rows) all (suc j) =
-    let e1 : k + 1 + j ≡ k + suc j = omega arith in
-    subst (λ c. all_alike methods up n (up c) (row_in (slice_get rows j)) ≡ true) e1
-    (rows_at methods up n (k + 1) rows (and_parts (all_alike methods up n (up k) row) (rows_alike methods up n (k + 1) rows) all).1 j)
+-- ---- rows
 
-pub all_rows_alike : (tree : ProgramTree) (rows : List (List Heading)) → rows_alike (class_headings rows) (above tree) (length tree) 0 rows ≡ true → AreAllAlike tree (class_headings rows)
-all_rows_alike tree rows all k =
+-- of a method in each row
+pub rows_fit : (f : Heading → Bool) (rows : List (List Heading)) → list_all (list_all f) rows ≡ true → (k : ℕ) → list_all f (class_headings rows k) ≡ true
+rows_fit f [] all k = refl
+rows_fit f (row ∷ rows) all zero = (and_parts (list_all f row) (list_all (list_all f) rows) all).0
+rows_fit f (row ∷ rows) all (suc k) = rows_fit f rows (and_parts (list_all f row) (list_all (list_all f) rows) all).1 k
+
+-- where nothing stands for others, all is well
+pub none_fit : (pattern : List ℕ → Option Heading) (methods : ℕ → List Heading) → ((text : List ℕ) → pattern text ≡ None) → AreFitting pattern methods
+none_fit pattern methods none k = each (methods k) where
+  each : (ms : List Heading) → list_all (fits_pattern pattern) ms ≡ true
+  each [] = refl
+  each (m ∷ ms) = and_from (fits_pattern pattern m) (list_all (fits_pattern pattern) ms) (ap (λ z. alike_or true z m) (none m.name.text)) (each ms)
+
+module _ (pattern : List ℕ → Option Heading) (methods : ℕ → List Heading) (up : ℕ → Option ℕ) (n : ℕ) where
+  rows_at : (k : ℕ) (rows : List (List Heading)) → rows_override_well pattern methods up n k rows ≡ true → (j : ℕ) → all_override_well pattern methods up n (up (k + j)) (row_in (slice_get rows j)) ≡ true
+  rows_at k [] all j = refl
+  rows_at k (row ∷ rows) all zero =
+      let e0 : k ≡ k + 0 = omega arith in
+      subst (λ c. all_override_well pattern methods up n (up c) row ≡ true) e0 (and_parts (all_override_well pattern methods up n (up k) row) (rows_override_well pattern methods up n (k + 1) rows) all).0
+  rows_at k (row ∷ rows) all (suc j) =
+      let e1 : k + 1 + j ≡ k + suc j = omega arith in
+      subst (λ c. all_override_well pattern methods up n (up c) (row_in (slice_get rows j)) ≡ true) e1
+      (rows_at (k + 1) rows (and_parts (all_override_well pattern methods up n (up k) row) (rows_override_well pattern methods up n (k + 1) rows) all).1 j)
+
+pub all_rows_override_well : (tree : ProgramTree) (pattern : List ℕ → Option Heading) (rows : List (List Heading)) → rows_override_well pattern (class_headings rows) (above tree) (length tree) 0 rows ≡ true → AllOverrideWell tree (class_headings rows) pattern
+all_rows_override_well tree pattern rows all k =
     let e : 0 + k ≡ k = omega arith in
-    subst (λ c. all_alike (class_headings rows) (above tree) (length tree) (above tree c) (row_in (slice_get rows k)) ≡ true) e (rows_at (class_headings rows) (above tree) (length tree) 0 rows all k)
+    subst (λ c. all_override_well pattern (class_headings rows) (above tree) (length tree) (above tree c) (row_in (slice_get rows k)) ≡ true) e (rows_at pattern (class_headings rows) (above tree) (length tree) 0 rows all k)
 
 -- one class further up, where this one has no method of the name
 pub alike_later : (methods : ℕ → List Heading) (up : ℕ → Option ℕ) (left class : ℕ) (m : Heading) (whole : Bool) → 0 < left → alike_above methods up left (Some class) m ≡ whole

@@ -12,6 +12,7 @@ mod Repeats
 mod Wholes
 mod Alone
 mod AlikeLemmas
+mod ClashLemmas
 pub mod OwnLemmas
 pub mod Leasts
 pub mod FirstFaults

@@ -21,11 +21,6 @@ use Rattle.classes.proofs.Leasts.{same_tests}
 two : (first f g : Option ClassFault) (xs ys : List ClassFault) → f ≡ noted first xs → g ≡ noted f ys → g ≡ noted first (xs ++ ys)
 two first f g xs ys a b = b ∙ ap (λ z. noted z ys) a ∙ sym (noted_append first xs ys)
 
--- a result that is known by an equation
-pub same_result : {E : Type 0} (result : Result (Option ClassFault) E) (f g : Option ClassFault) → IfOk result (λ h. h ≡ f) → f ≡ g → IfOk result (λ h. h ≡ g)
-same_result (Ok h) f g is same = is ∙ same
-same_result (Err e) f g is same = tt
-
 -- the faults of a class but for the names of its fields, by what they are found from
 abbrev others : ClassTree → (List ℕ → Bool) → List MemberTree → Bool → Bool → (ℕ → List Heading) → List ℕ → ℕ → List ClassFault
 others c test ms counting circular methods along k =

@@ -1,17 +1,20 @@
 //! Sees by the nearest methods alone that no method overrides one that it may not override. Where a method has the signature of the nearest
-//! one with its name, whose locks are known, and that of the nearest above it, and so on, it has the signature of all.
+//! one with its name, whose locks are known if its own are, and that of the nearest above it, and so on, it has the signature of all. The
+//! nearest one is looked for only where no method stands for all of the name.
 ghost use Rattle.std.specs.Prelude.{◌≡◌, true, map, length};
 ghost use Rattle.std.specs.List.{list_any, list_all};
 ghost use Rattle.std.specs.Option.{is_some};
-ghost use Rattle.classes.specs.Alike.{same_name, is_alike, alike_if_named, alike_above, all_alike, AreAllAlike};
+ghost use Rattle.classes.specs.Alike.{same_name, is_alike, alike_if_named, alike_above, overrides_well, all_override_well, AllOverrideWell};
+ghost use Rattle.classes.specs.Patterns.{pattern_of};
 ghost use Rattle.classes.specs.Families.{tree_of, IsFamily, locks_data, heading_data, rows_data, class_headings};
 ghost use Rattle.classes.specs.Lines as lines;
 
 use crate::family::Family;
 use crate::overriding::{Heading, is_same_signature};
+use crate::patterns::Patterns;
 
 /// Whether the locks of a method are known.
-fn has_known_locks(one: &Heading) -> bool
+pub(crate) fn has_known_locks(one: &Heading) -> bool
     ensures { result ≡ is_some (locks_data one.now.locks) }
 {
     match &one.locks {
@@ -20,11 +23,11 @@ fn has_known_locks(one: &Heading) -> bool
     }
 }
 
-/// Whether a method has the signature of another, and of that the locks are known.
-fn is_alike(one: &Heading, other: &Heading) -> bool
+/// Whether a method has the signature of another, and of that the locks are known where its own are.
+pub(crate) fn is_alike(one: &Heading, other: &Heading) -> bool
     ensures { result ≡ is_alike (heading_data one.now) (heading_data other.now) }
 {
-    is_same_signature(one, other) && has_known_locks(other)
+    is_same_signature(one, other) && (has_known_locks(other) || !has_known_locks(one))
 }
 
 fn has_same_name(one: &Heading, other: &Heading) -> bool
@@ -111,14 +114,35 @@ fn is_alike_above(family: &Family, rows: &[Vec<Heading>], number: usize, one: &H
     next.is_none()
 }
 
-/// Whether each of these methods of a class is.
-fn are_all_alike(family: &Family, rows: &[Vec<Heading>], number: usize, own: &[Heading]) -> bool
+/// Whether a method of a class is alike with the one that stands for all of its name, or with the nearest ones.
+fn overrides_well(
+    family: &Family,
+    rows: &[Vec<Heading>],
+    patterns: &Patterns,
+    number: usize,
+    one: &Heading,
+) -> bool
     requires { IsFamily family.now }
     ensures { let tree = tree_of family.now in
-        result ≡ all_alike (class_headings (rows_data rows.now)) (lines.above tree) (length tree) (lines.above tree number) (map heading_data own.now) }
+        result ≡ overrides_well (pattern_of patterns.now) (class_headings (rows_data rows.now)) (lines.above tree) (length tree) (lines.above tree number) (heading_data one.now) }
+{
+    patterns.stand_for(one) || is_alike_above(family, rows, number, one)
+}
+
+/// Whether each of these methods of a class is.
+fn all_override_well(
+    family: &Family,
+    rows: &[Vec<Heading>],
+    patterns: &Patterns,
+    number: usize,
+    own: &[Heading],
+) -> bool
+    requires { IsFamily family.now }
+    ensures { let tree = tree_of family.now in
+        result ≡ all_override_well (pattern_of patterns.now) (class_headings (rows_data rows.now)) (lines.above tree) (length tree) (lines.above tree number) (map heading_data own.now) }
 {
     for one in own {
-        if !is_alike_above(family, rows, number, one) {
+        if !overrides_well(family, rows, patterns, number, one) {
             return false;
         }
     }
@@ -126,12 +150,16 @@ fn are_all_alike(family: &Family, rows: &[Vec<Heading>], number: usize, own: &[H
 }
 
 /// Whether each method of each class is.
-pub(crate) fn are_alike(family: &Family, rows: &[Vec<Heading>]) -> bool
+pub(crate) fn classes_override_well(
+    family: &Family,
+    rows: &[Vec<Heading>],
+    patterns: &Patterns,
+) -> bool
     requires { IsFamily family.now }
-    ensures { result ≡ true → AreAllAlike (tree_of family.now) (class_headings (rows_data rows.now)) }
+    ensures { result ≡ true → AllOverrideWell (tree_of family.now) (class_headings (rows_data rows.now)) (pattern_of patterns.now) }
 {
     for (number, row) in rows.iter().enumerate() {
-        if !are_all_alike(family, rows, number, row.as_slice()) {
+        if !all_override_well(family, rows, patterns, number, row.as_slice()) {
             return false;
         }
     }

@@ -8,13 +8,15 @@ ghost use Rattle.classes.specs.Members.{class_names};
 ghost use Rattle.classes.specs.Lines.{all_members, members_at};
 ghost use Rattle.classes.specs.Climbs.{HaveSameFields};
 ghost use Rattle.classes.specs.Lines as lines;
-ghost use Rattle.classes.specs.Alike.{AreAllAlike};
-ghost use Rattle.classes.specs.Faults.{twice_faults, override_faults, circle_faults, other_faults, class_faults, class_faults_from, is_main, missing_main, all_class_faults};
+ghost use Rattle.classes.specs.Alike.{AllOverrideWell, AreFitting};
+ghost use Rattle.classes.specs.Patterns.{pattern_of};
+ghost use Rattle.classes.specs.Faults.{twice_faults, circle_faults, other_faults, class_faults, class_faults_from, is_main, missing_main, all_class_faults};
 ghost use Rattle.classes.specs.Families.{members_along, first_places, tree_of, IsFamily, rows_data, class_headings, AreHeadings};
 ghost use Rattle.classes.specs.Own.{all_own_names};
 ghost use Rattle.classes.specs.Noted.{noted};
 
-use crate::alike::are_alike;
+use crate::alike::classes_override_well;
+use crate::clashes::{Inheritance, note_bad_overrides};
 use crate::constructors::{has_finals, note_constructors, note_missing_constructor};
 use crate::family::{Family, reversed};
 use crate::fault::ClassFault;
@@ -23,8 +25,9 @@ use crate::limits::MOST_FIELDS;
 use crate::members::{note_above, note_excess, note_fields, note_members, note_methods};
 use crate::names::NameSet;
 use crate::numbered_fields::field_at;
-use crate::overriding::{Heading, headings_where_inherited, note_overrides};
+use crate::overriding::headings_where_inherited;
 use crate::own::OwnNames;
+use crate::patterns::patterns_of;
 use crate::starts::have_entry;
 use std::alloc::{AllocError as NoMemory, Global};
 use syntax::{Class, Name, Program};
@@ -55,34 +58,6 @@ fn note_circle(class: &Name, is_on_circle: bool, first: Option<ClassFault>) -> O
     }
 }
 
-/// What the faults of a class are found by: memory, which class extends which, the headings of the methods of each class
-/// where one extends another, and whether the nearest ones show that none overrides one badly.
-#[derive(Clone, Copy)]
-struct Inheritance<'f, 'p, 'a> {
-    alloc: Global,
-    family: &'f Family<'p, 'a>,
-    headings: &'f [Vec<Heading<'p, 'a>>],
-    are_alike: bool,
-}
-
-/// The faults of methods that override one that they may not override. Where all are alike with the nearest, there are none.
-fn note_bad_overrides(
-    inheritance: &Inheritance,
-    number: usize,
-    first: Option<ClassFault>,
-) -> Result<Option<ClassFault>, NoMemory>
-    requires family { IsFamily inheritance.now.family.now }
-    requires alike { inheritance.now.are_alike ≡ true → AreAllAlike (tree_of inheritance.now.family.now) (class_headings (rows_data inheritance.now.headings.now)) }
-    ensures { let methods = class_headings (rows_data inheritance.now.headings.now) in
-        IfOk result (λ f. f ≡ noted first (override_faults methods (lines.ancestor_classes (tree_of inheritance.now.family.now) number) (methods number))) }
-{
-    if inheritance.are_alike {
-        return Ok(first);
-    }
-    let line = inheritance.family.line(inheritance.alloc, number)?;
-    Ok(note_overrides(inheritance.headings, line.as_slice(), number, first))
-}
-
 /// The faults of a class but for the names of its fields. It has the fields of these classes in order.
 #[tactic(auto, using(crate::proofs::Noting::noted_append))]
 fn note_others(
@@ -94,7 +69,8 @@ fn note_others(
 ) -> Result<Option<ClassFault>, NoMemory>
     requires family { IsFamily inheritance.now.family.now }
     requires rows { AreHeadings (tree_of inheritance.now.family.now) (class_headings (rows_data inheritance.now.headings.now)) }
-    requires alike { inheritance.now.are_alike ≡ true → AreAllAlike (tree_of inheritance.now.family.now) (class_headings (rows_data inheritance.now.headings.now)) }
+    requires well { inheritance.now.all_override_well ≡ true → AllOverrideWell (tree_of inheritance.now.family.now) (class_headings (rows_data inheritance.now.headings.now)) (pattern_of inheritance.now.patterns.now) }
+    requires fitting { AreFitting (pattern_of inheritance.now.patterns.now) (class_headings (rows_data inheritance.now.headings.now)) }
     requires own { members_at (tree_of inheritance.now.family.now) number ≡ map member_of class.now.members.items }
     requires order { HaveSameFields (members_along (tree_of inheritance.now.family.now) order.now) (all_members (tree_of inheritance.now.family.now) number) }
     ensures { IfOk result (λ f. f ≡ noted first (other_faults (tree_of inheritance.now.family.now) number (class_of class.now))) }
@@ -112,19 +88,20 @@ fn note_others(
     let found = note_missing_run(&class.name, family.counts(number), has_run, found);
     let found = note_excess(field_at(classes, order, MOST_FIELDS), found);
     let found = note_circle(&class.name, family.is_on_circle(number), found);
-    note_bad_overrides(inheritance, number, found)
+    Ok(note_bad_overrides(inheritance, number, found))
 }
 
 /// The faults of a class that extends none.
 fn note_alone<'p, 'a>(
-    inheritance: &Inheritance<'_, 'p, 'a>,
+    inheritance: &Inheritance<'_, '_, 'p, 'a>,
     number: usize,
     class: &Class<'a>,
     first: Option<ClassFault>,
 ) -> Result<Option<ClassFault>, NoMemory>
     requires family { IsFamily inheritance.now.family.now }
     requires rows { AreHeadings (tree_of inheritance.now.family.now) (class_headings (rows_data inheritance.now.headings.now)) }
-    requires alike { inheritance.now.are_alike ≡ true → AreAllAlike (tree_of inheritance.now.family.now) (class_headings (rows_data inheritance.now.headings.now)) }
+    requires well { inheritance.now.all_override_well ≡ true → AllOverrideWell (tree_of inheritance.now.family.now) (class_headings (rows_data inheritance.now.headings.now)) (pattern_of inheritance.now.patterns.now) }
+    requires fitting { AreFitting (pattern_of inheritance.now.patterns.now) (class_headings (rows_data inheritance.now.headings.now)) }
     requires own { members_at (tree_of inheritance.now.family.now) number ≡ map member_of class.now.members.items }
     requires alone { lines.above (tree_of inheritance.now.family.now) number ≡ None }
     ensures { IfOk result (λ f. f ≡ noted first (class_faults (tree_of inheritance.now.family.now) number (class_of class.now))) }
@@ -143,14 +120,15 @@ fn note_alone<'p, 'a>(
 
 /// The faults of a class.
 fn note_class<'p, 'a>(
-    inheritance: &Inheritance<'_, 'p, 'a>,
+    inheritance: &Inheritance<'_, '_, 'p, 'a>,
     number: usize,
     class: &Class<'a>,
     first: Option<ClassFault>,
 ) -> Result<Option<ClassFault>, NoMemory>
     requires family { IsFamily inheritance.now.family.now }
     requires rows { AreHeadings (tree_of inheritance.now.family.now) (class_headings (rows_data inheritance.now.headings.now)) }
-    requires alike { inheritance.now.are_alike ≡ true → AreAllAlike (tree_of inheritance.now.family.now) (class_headings (rows_data inheritance.now.headings.now)) }
+    requires well { inheritance.now.all_override_well ≡ true → AllOverrideWell (tree_of inheritance.now.family.now) (class_headings (rows_data inheritance.now.headings.now)) (pattern_of inheritance.now.patterns.now) }
+    requires fitting { AreFitting (pattern_of inheritance.now.patterns.now) (class_headings (rows_data inheritance.now.headings.now)) }
     requires own { members_at (tree_of inheritance.now.family.now) number ≡ map member_of class.now.members.items }
     ensures { IfOk result (λ f. f ≡ noted first (class_faults (tree_of inheritance.now.family.now) number (class_of class.now))) }
 {
@@ -162,14 +140,15 @@ fn note_class<'p, 'a>(
 
 /// The faults of a class that may extend another.
 fn note_heir<'p, 'a>(
-    inheritance: &Inheritance<'_, 'p, 'a>,
+    inheritance: &Inheritance<'_, '_, 'p, 'a>,
     number: usize,
     class: &Class<'a>,
     first: Option<ClassFault>,
 ) -> Result<Option<ClassFault>, NoMemory>
     requires family { IsFamily inheritance.now.family.now }
     requires rows { AreHeadings (tree_of inheritance.now.family.now) (class_headings (rows_data inheritance.now.headings.now)) }
-    requires alike { inheritance.now.are_alike ≡ true → AreAllAlike (tree_of inheritance.now.family.now) (class_headings (rows_data inheritance.now.headings.now)) }
+    requires well { inheritance.now.all_override_well ≡ true → AllOverrideWell (tree_of inheritance.now.family.now) (class_headings (rows_data inheritance.now.headings.now)) (pattern_of inheritance.now.patterns.now) }
+    requires fitting { AreFitting (pattern_of inheritance.now.patterns.now) (class_headings (rows_data inheritance.now.headings.now)) }
     requires own { members_at (tree_of inheritance.now.family.now) number ≡ map member_of class.now.members.items }
     ensures { IfOk result (λ f. f ≡ noted first (class_faults (tree_of inheritance.now.family.now) number (class_of class.now))) }
 {
@@ -196,7 +175,8 @@ fn note_classes(
 ) -> Result<Option<ClassFault>, NoMemory>
     requires family { IsFamily inheritance.now.family.now }
     requires rows { AreHeadings (tree_of inheritance.now.family.now) (class_headings (rows_data inheritance.now.headings.now)) }
-    requires alike { inheritance.now.are_alike ≡ true → AreAllAlike (tree_of inheritance.now.family.now) (class_headings (rows_data inheritance.now.headings.now)) }
+    requires well { inheritance.now.all_override_well ≡ true → AllOverrideWell (tree_of inheritance.now.family.now) (class_headings (rows_data inheritance.now.headings.now)) (pattern_of inheritance.now.patterns.now) }
+    requires fitting { AreFitting (pattern_of inheritance.now.patterns.now) (class_headings (rows_data inheritance.now.headings.now)) }
     ensures { IfOk result (λ f. f ≡ noted first (class_faults_from (tree_of inheritance.now.family.now) 0 (tree_of inheritance.now.family.now))) }
 {
     let mut found = first;
@@ -306,11 +286,14 @@ fn note_all<'p, 'a>(
     }
     let family = Family::new(alloc, classes, names, own, firsts)?;
     let headings = headings_where_inherited(alloc, &family)?;
+    let headings = headings.as_slice();
+    let patterns = patterns_of(alloc, headings)?;
     let inheritance = Inheritance {
         alloc,
         family: &family,
-        headings: headings.as_slice(),
-        are_alike: are_alike(&family, headings.as_slice()),
+        headings,
+        patterns: &patterns,
+        all_override_well: classes_override_well(&family, headings, &patterns),
     };
     let found = note_classes(&inheritance, first)?;
     note_missing_main(alloc, &family, found)

@@ -1,7 +1,7 @@
 //! The first of the faults that are found one after the other.
 ghost use Rattle.std.specs.Prelude.{◌≡◌, Some};
 ghost use Rattle.classes.specs.declared.first.FaultPlace.{FaultPlace};
-ghost use Rattle.classes.specs.First.{comes_before, earlier};
+ghost use Rattle.classes.specs.First.{comes_before, earlier, is_told};
 
 /// Where a fault stands: its offset in bytes, from 0, and its rank among the faults that may stand at one offset.
 #[derive(Clone, Copy, Debug, PartialEq, Eq)]
@@ -36,5 +36,15 @@ pub fn first_of<F: Placed>(found: Option<F>, fault: F) -> Option<F>
     match found {
         Some(earlier) if !fault.place().comes_before(earlier.place()) => Some(earlier),
         _ => Some(fault),
+    }
+}
+
+/// Whether this fault is told where another one may have been found before.
+pub(crate) fn is_told<F: Placed>(found: Option<F>, fault: F) -> bool
+    ensures { result ≡ is_told F.place_of found fault }
+{
+    match found {
+        Some(earlier) => fault.place().comes_before(earlier.place()),
+        None => true,
     }
 }

@@ -6,6 +6,7 @@ mod above;
 mod alike;
 mod build;
 mod check;
+mod clashes;
 mod climbs;
 mod constructors;
 mod entries;
@@ -22,6 +23,7 @@ mod numbered_fields;
 mod numbers;
 mod overriding;
 mod own;
+mod patterns;
 mod starts;
 
 pub use check::first_fault;

@@ -1,17 +1,13 @@
-//! Notes the methods that override one with another signature.
+//! Methods by their names and signatures, and whether two signatures are the same.
 
 ghost use Rattle.std.specs.Prelude.{◌≡◌, None, map, option_map, IfOk, if◌then◌else◌};
 ghost use Rattle.std.specs.List.{list_any};
 ghost use Rattle.syntax.specs.Views.{member_of, lock_of};
-ghost use Rattle.classes.specs.Overriding.{class_of_type, reach_from, reach_along, param_root, lock_root, meaning_of, meanings_of, is_same_lock, are_same_places, are_among, same_where_known, are_alike, is_same_result, is_same_signature, headings, headings_at, clashes, overrides_badly};
-ghost use Rattle.classes.specs.Faults.{override_faults};
+ghost use Rattle.classes.specs.Overriding.{class_of_type, reach_from, reach_along, param_root, lock_root, meaning_of, meanings_of, is_same_lock, are_same_places, are_among, same_where_known, are_alike, is_same_result, is_same_signature, headings, headings_at};
 ghost use Rattle.classes.specs.Families.{tree_of, IsFamily, place_data, lock_meaning, locks_data, heading_data, rows_data, class_headings, AreHeadings};
-ghost use Rattle.classes.specs.Noted.{noted};
 
 use crate::constructors::is_same;
 use crate::family::{Family, Field, FieldPlace};
-use crate::fault::ClassFault;
-use crate::first::first_of;
 use std::alloc::{AllocError as NoMemory, Global};
 use syntax::{Lock, Member, Name, Param, TypeName};
 
@@ -254,81 +250,6 @@ pub(crate) fn is_same_signature(one: &Heading, other: &Heading) -> bool
         && is_same_result(one.returns, other.returns)
         && one.atomic == other.atomic
         && are_same_locks(&one.locks, &other.locks)
-}
-
-/// Whether two methods have one name and may not override each other.
-fn clash(one: &Heading, other: &Heading) -> bool
-    ensures { result ≡ clashes (heading_data one.now) (heading_data other.now) }
-{
-    let name = one.name;
-    let other_name = other.name;
-    name.text == other_name.text && !is_same_signature(one, other)
-}
-
-fn clashes_with_any(one: &Heading, others: &[Heading]) -> bool
-    ensures { result ≡ list_any (clashes (heading_data one.now)) (map heading_data others.now) }
-{
-    for other in others {
-        if clash(one, other) {
-            return true;
-        }
-    }
-    false
-}
-
-fn clashes_with_class(rows: &[Vec<Heading>], class: usize, one: &Heading) -> bool
-    ensures { result ≡ list_any (clashes (heading_data one.now)) (class_headings (rows_data rows.now) class) }
-{
-    match rows.get(class) {
-        Some(row) => clashes_with_any(one, row.as_slice()),
-        None => false,
-    }
-}
-
-/// Whether a method clashes with one of these classes.
-fn overrides_badly(rows: &[Vec<Heading>], line: &[usize], one: &Heading) -> bool
-    ensures { result ≡ overrides_badly (class_headings (rows_data rows.now)) line.now (heading_data one.now) }
-{
-    for class in line {
-        if clashes_with_class(rows, *class, one) {
-            return true;
-        }
-    }
-    false
-}
-
-/// The faults of methods that override one that they may not override, where their class inherits from these classes.
-fn note_clashes(
-    rows: &[Vec<Heading>],
-    line: &[usize],
-    own: &[Heading],
-    first: Option<ClassFault>,
-) -> Option<ClassFault>
-    ensures { result ≡ noted first (override_faults (class_headings (rows_data rows.now)) line.now (map heading_data own.now)) }
-{
-    let mut found = first;
-    for one in own {
-        if overrides_badly(rows, line, one) {
-            let name = one.name;
-            found = first_of(found, ClassFault::BadOverride(name.at));
-        }
-    }
-    found
-}
-
-/// The same of the class with this number.
-pub(crate) fn note_overrides(
-    rows: &[Vec<Heading>],
-    line: &[usize],
-    number: usize,
-    first: Option<ClassFault>,
-) -> Option<ClassFault>
-    ensures { result ≡ noted first (override_faults (class_headings (rows_data rows.now)) line.now (class_headings (rows_data rows.now) number)) }
-{
-    match rows.get(number) {
-        Some(own) => note_clashes(rows, line, own.as_slice(), first),
-        None => first,
-    }
 }
 
 /// The methods among the members of a class.

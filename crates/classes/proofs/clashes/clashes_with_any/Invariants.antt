@@ -2,7 +2,7 @@ use Rattle.classes.specs.Families.{heading_data}
 use Rattle.classes.specs.Overriding.{clashes}
 use Rattle.std.proofs.Common.{drop, map, ◌≡◌}
 use Rattle.std.specs.List.{list_any}
-use Rattle.classes.proofs.overriding.clashes_with_any.Given as goal
+use Rattle.classes.proofs.clashes.clashes_with_any.Given as goal
 
 abbrev pub invariant-loop-other : goal.invariant-loop-other
 invariant-loop-other l =
