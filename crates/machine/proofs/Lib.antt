@@ -21,5 +21,7 @@ mod Insides
 pub mod Schedules
 mod Reaching
 mod Starting
--- What is kept of calls.
+-- Looks up a line of classes (Enough, Passing), and what is kept of them.
+mod Enough
+mod Passing
 mod Keeping

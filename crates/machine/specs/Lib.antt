@@ -4,8 +4,9 @@ pub mod CodeMachine
 pub mod Likeness
 pub mod Seen
 pub mod Turns
--- What is kept of calls, so that a method far up a line of classes is looked for once.
+-- What is kept of calls, so that a method far up a line of classes is looked for once, and what a look up the line tells.
 pub mod Targets
+pub mod Upwards
 -- What the contracts of the machine cite. A reader of the public calls needs Likeness of `machine`, MachineValue and Reasons, Standing,
 -- and Lean, in this order. What is done to a thread's top frame and to what all threads share stands in Listed and Deeds, what a taken
 -- turn is in Taken, when it takes no memory in Rooms, and numbers that are at most the number of steps in Counts; Reaching has what

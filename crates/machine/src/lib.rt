@@ -21,6 +21,8 @@ mod seen;
 mod shared;
 mod targets;
 mod turn;
+mod upwards;
+mod weights;
 
 pub use act::object_values;
 pub use calling::run_of_class;

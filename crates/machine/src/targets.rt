@@ -1,22 +1,23 @@
 //! Which method runs for a call, with what was found before.
-ghost use Rattle.std.specs.Prelude.{◌≡◌, Some};
+ghost use Rattle.std.specs.Prelude.{◌≡◌, Some, slice_get};
 ghost use Rattle.core_program.specs.Dispatch.{target_of};
 ghost use Rattle.core_program.specs.Views.{program_of};
+ghost use Rattle.machine.specs.Upwards.{gives};
 
-use core_program::{CoreClass, CoreProgram};
+use crate::upwards::{Look, name_of, pass, runs_below};
+use crate::weights::{CHEAP, copied, dear_weights, is_boundary};
+use core_program::CoreProgram;
 use indexmap::IndexMap;
 use paths::{ClassId, MethodId};
 use std::alloc::Global;
 use std::marker::Model;
 
-/// A look that passes at most so many classes and so many methods is cheap.
-const CHEAP: usize = 64;
-
-/// A program, and what was found of its calls, which is kept where looks may be dear. A contract sees the program.
+/// A program, and what was found of its calls, which is kept where looks may be dear: then there are weights.
+/// A contract sees the program.
 #[derive(Drop)]
 pub struct Targets<'p> {
     program: &'p CoreProgram,
-    is_deep: bool,
+    weights: Vec<usize>,
     found: IndexMap<(ClassId, MethodId), MethodId>,
 }
 
@@ -36,34 +37,6 @@ impl<'p> Model for Targets<'p> {
     ghost invariant = { λ t. AreFound (program_of t.program.now) t.found.entries };
 }
 
-/// Whether a look up the line of a class is cheap.
-fn is_cheap(classes: &[CoreClass], class: &CoreClass) -> bool {
-    let mut at = class.above;
-    let mut methods = class.method_count;
-    for _ in 0..CHEAP {
-        if methods > CHEAP {
-            return false;
-        }
-        let Some(id) = at else { return true };
-        let Some(above) = classes.get(id.0 as usize) else {
-            return true;
-        };
-        methods = methods.saturating_add(above.method_count);
-        at = above.above;
-    }
-    false
-}
-
-/// Whether a look up the line of some class isn't cheap.
-fn is_deep(classes: &[CoreClass]) -> bool {
-    for class in classes {
-        if !is_cheap(classes, class) {
-            return true;
-        }
-    }
-    false
-}
-
 impl<'p> Targets<'p> {
     /// Nothing was found of a program.
     pub fn new(alloc: Global, program: &'p CoreProgram) -> Targets<'p>
@@ -71,7 +44,7 @@ impl<'p> Targets<'p> {
     {
         Targets {
             program,
-            is_deep: is_deep(program.classes()),
+            weights: dear_weights(alloc, program.classes()),
             found: IndexMap::new(alloc),
         }
     }
@@ -82,7 +55,7 @@ impl<'p> Targets<'p> {
     {
         Targets {
             program: self.program,
-            is_deep: self.is_deep,
+            weights: copied(alloc, self.weights.as_slice()),
             found: IndexMap::new(alloc),
         }
     }
@@ -96,14 +69,14 @@ impl<'p> Targets<'p> {
 
     /// Whether what is found is kept: some look is dear.
     pub(crate) fn is_deep(&self) -> bool {
-        self.is_deep
+        !self.weights.is_empty()
     }
 
     /// The method that runs for a method and an object of a class; `None` exactly where the class has no pair of that method.
     pub fn target(&self, class: ClassId, method: MethodId) -> Option<MethodId>
         ensures { result ≡ target_of (program_of self.now) class method }
     {
-        if self.is_deep {
+        if self.is_deep() {
             if let Some(runs) = self.found.get(&(class, method)) {
                 return Some(*runs);
             }
@@ -115,12 +88,70 @@ impl<'p> Targets<'p> {
     pub(crate) fn keep(&mut self, class: ClassId, method: MethodId)
         ensures { self.new ≡ self.old }
     {
-        if self.found.contains_key(&(class, method)) {
-            return;
+        if let Some(name) = name_of(self.program, method) {
+            let parts = self.weights.len().saturating_add(self.program.names.len());
+            let _ = self.known(class, method, name, parts / CHEAP + 2);
         }
-        let Some(runs) = self.program.target(class, method) else {
-            return;
-        };
-        let _ = self.found.insert((class, method), runs);
+    }
+
+    /// What runs for a method with this name and an object of a class. It is kept for the class, and for those above it at
+    /// which a look ends. At most so many of these are asked in turn.
+    fn known(
+        &mut self,
+        class: ClassId,
+        method: MethodId,
+        name: u32,
+        left: usize,
+    ) -> Option<MethodId>
+        requires { slice_get self.old.names.items method ≡ Some name }
+        ensures same { self.new ≡ self.old }
+        ensures runs { result ≡ target_of (program_of self.old) class method }
+    {
+        if left == 0 {
+            return self.program.target(class, method);
+        }
+        if let Some(runs) = self.found.get(&(class, method)) {
+            return Some(*runs);
+        }
+        match self.look(class, method, name) {
+            Look::Ends(runs) => self.kept(class, method, runs),
+            Look::GoesOn(above, nearest) => {
+                let runs = runs_below(nearest, self.known(above, method, name, left - 1));
+                self.kept(class, method, runs)
+            }
+        }
+    }
+
+    /// A look from a class up to the next one at which looks end.
+    fn look(&self, class: ClassId, method: MethodId, name: u32) -> Look
+        requires { slice_get self.now.names.items method ≡ Some name }
+        ensures { gives (program_of self.now) method result ≡ target_of (program_of self.now) class method }
+    {
+        let mut at = class;
+        let mut nearest = None;
+        'classes: for _ in 0..CHEAP {
+            match pass(self.program, at, nearest, method, name) {
+                Look::Ends(runs) => return Look::Ends(runs),
+                Look::GoesOn(above, passed) => {
+                    if is_boundary(self.weights.as_slice(), at, above) {
+                        return Look::GoesOn(above, passed);
+                    }
+                    at = above;
+                    nearest = passed;
+                }
+            }
+        }
+        Look::GoesOn(at, nearest)
+    }
+
+    /// Keeps what runs for a method and an object of a class, where anything does and there is memory for it.
+    fn kept(&mut self, class: ClassId, method: MethodId, runs: Option<MethodId>) -> Option<MethodId>
+        requires { runs ≡ target_of (program_of self.old) class method }
+        ensures same { self.new ≡ self.old }
+        ensures runs { result ≡ runs }
+    {
+        let Some(found) = runs else { return None };
+        let _ = self.found.insert((class, method), found);
+        Some(found)
     }
 }
