@@ -31,8 +31,9 @@ sets_rise   methods that are called under more and more levels
 deep        classes in a line, where a loop calls the first one's method on an object of the last
 crowd       the same for objects of the last 60 classes and eight methods, called at eight places
 firsts      the same for an object of each class of the lower half
+spread      the same for objects of 100 classes of the lower half and 400 methods, called at 400 places
 
-The last three are run: `run`, `serialise`, `serialise-open` and `replay` get a schedule of 200,000 entries.
+The last four are run: `run`, `serialise`, `serialise-open` and `replay` get a schedule of 200,000 entries.
 """
 from __future__ import annotations
 
@@ -220,9 +221,10 @@ def deep(count: int) -> str:
     return running(f"final c0 x=new c{count - 1}();while(true){{{'x.f();' * 20}}}", count)
 
 
-def at_eight_places(body: str, count: int) -> str:
-    methods = "".join(f"void f{k}(){{}}" for k in range(8))
-    calls = "".join(f"x.f{k}();" for k in range(8))
+def at_places(body: str, count: int, places: int = 8) -> str:
+    """The same with so many methods, and one of the main class that calls each of them."""
+    methods = "".join(f"void f{k}(){{}}" for k in range(places))
+    calls = "".join(f"x.f{k}();" for k in range(places))
     return running(body, count, methods, f"void all(final c0 x){{{calls}}}")
 
 
@@ -230,15 +232,23 @@ def crowd(count: int) -> str:
     some = range(max(0, count - 60), count)
     made = "".join(f"final c{k} x{k}=new c{k}();" for k in some)
     calls = "".join(f"this.all(x{k});" for k in some)
-    return at_eight_places(f"{made}while(true){{{calls}}}", count)
+    return at_places(f"{made}while(true){{{calls}}}", count)
+
+
+def called_on(some: range, count: int, places: int) -> str:
+    calls = "".join(f"this.all(new c{k}());" for k in some)
+    return at_places(f"while(true){{{calls}}}", count, places)
 
 
 def firsts(count: int) -> str:
-    calls = "".join(f"this.all(new c{k}());" for k in range(count // 2, count))
-    return at_eight_places(f"while(true){{{calls}}}", count)
+    return called_on(range(count // 2, count), count, 8)
 
 
-RUN_FAMILIES: dict[str, Family] = {"deep": deep, "crowd": crowd, "firsts": firsts}
+def spread(count: int) -> str:
+    return called_on(range(count // 2, count, max(1, count // 200)), count, 400)
+
+
+RUN_FAMILIES: dict[str, Family] = {"deep": deep, "crowd": crowd, "firsts": firsts, "spread": spread}
 FAMILIES: dict[str, Family] = {
     "overriding": overriding,
     "reverse": reverse,
