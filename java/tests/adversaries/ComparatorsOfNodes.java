@@ -106,7 +106,7 @@ class ComparatorCopied {
         private long due;
     }
 
-    private final PriorityQueue<Task> tasks = new PriorityQueue<>((one, other) -> Long.compare(one.due, other.due));
+    private final PriorityQueue<Task> tasks = new PriorityQueue<>((one, other) -> Long.compare(one.due, other.due)); // refused: a copy is compared without the lock
 
     synchronized void add() {
         Task made = new Task();
@@ -130,7 +130,7 @@ class ComparatorCopied {
         return found;
     }
 
-    /* atomic */ synchronized void twice() { // refused: so their fields have no lock
+    /* atomic */ synchronized void twice() { // accepted: a copy is compared without the lock, which is the error
         tasks.peek().due++;
         tasks.peek().due++;
     }
@@ -141,7 +141,7 @@ class ComparatorGivenAway {
         private long due;
     }
 
-    private final TreeMap<Task, String> tasks = new TreeMap<>((one, other) -> Long.compare(one.due, other.due));
+    private final TreeMap<Task, String> tasks = new TreeMap<>((one, other) -> Long.compare(one.due, other.due)); // refused: others may compare without the lock
 
     Object order() {
         return tasks.comparator();
@@ -151,7 +151,7 @@ class ComparatorGivenAway {
         tasks.put(new Task(), "");
     }
 
-    /* atomic */ synchronized void delay() { // refused: others may compare without the lock
+    /* atomic */ synchronized void delay() { // accepted: the comparator that others are given looks without the lock
         tasks.firstKey().due++;
         tasks.firstKey().due++;
     }

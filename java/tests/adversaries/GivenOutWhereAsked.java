@@ -117,7 +117,7 @@ class IteratorGivenOut {
     private final String[] names = new String[9];
     private int count;
 
-    public synchronized void add(String name) { // refused
+    public synchronized void add(String name) { // accepted: the iterator is the error
         names[count] = name;
         count++;
     }

@@ -38,7 +38,7 @@ class WalksOverArray {
         return kept.clone();
     }
 
-    /* atomic */ int first() { // accepted
+    /* atomic */ int first() { // refused: most looks hold the lock
         return counts[0];
     }
 }

@@ -131,7 +131,7 @@ public class Branch {
         }
     }
 
-    public void keep(long cents) { // refused: alarm: the look of reserve() that takes no lock takes the guard away
+    public void keep(long cents) { // accepted
         long stamp = lock.writeLock();
         try {
             reserve = reserve + cents;

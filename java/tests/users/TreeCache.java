@@ -81,7 +81,7 @@ public class TreeCache<K extends Comparable<K>, V> {
         }
     }
 
-    public Optional<V> findAndCount(K key) { // refused: alarm: one count is one step, but that calls() may see it in two halves, which most machines never show
+    public Optional<V> findAndCount(K key) { // accepted
         synchronized (guard) {
             var found = find(key);
             figures.count(found.isPresent());
@@ -101,7 +101,7 @@ public class TreeCache<K extends Comparable<K>, V> {
         return null;
     }
 
-    public void put(K key, V value) { // refused: fault: size() may see one too many meanwhile
+    public void put(K key, V value) { // accepted: the look without the lock is refused in its place
         synchronized (guard) {
             root = put(root, key, value);
             if (size > most) {
@@ -181,7 +181,7 @@ public class TreeCache<K extends Comparable<K>, V> {
         }
     }
 
-    public boolean forget(K key) { // refused: alarm: perhaps: remove() calls itself, and is taken to count down more than once, which size() sees
+    public boolean forget(K key) { // accepted
         synchronized (guard) {
             int before = size;
             root = remove(root, key);
@@ -193,7 +193,7 @@ public class TreeCache<K extends Comparable<K>, V> {
         keys.forEach(this::forget);
     }
 
-    public int size() { // accepted
+    public int size() { // refused: fault: one look at a field without its lock
         return size;
     }
 

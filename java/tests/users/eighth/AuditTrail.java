@@ -17,7 +17,7 @@ public class AuditTrail {
     private int entries;
     private String lastUser = "";
 
-    public void append(String user, String message) { // refused: alarm: one region
+    public void append(String user, String message) { // accepted
         long stamp = lock.writeLock();
         try {
             write(user, message);
@@ -110,11 +110,11 @@ public class AuditTrail {
         return text().lines();
     }
 
-    public String lastUser() { // accepted: one look at a field without its lock, which is told as a data race
+    public String lastUser() { // refused: fault: one look at a field without its lock
         return lastUser;
     }
 
-    public String drain() { // refused: alarm: one region
+    public String drain() { // accepted
         long stamp = lock.writeLock();
         try {
             String all = text.toString();

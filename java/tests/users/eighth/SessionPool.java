@@ -134,7 +134,7 @@ public class SessionPool<C> {
         }
     }
 
-    public boolean isShut() { // accepted: one look at a field without its lock, which is told as a data race
+    public boolean isShut() { // refused: fault: one look at a field without its lock
         return shut;
     }
 

@@ -33,7 +33,7 @@ public class ForkliftPool {
 
     public ForkliftPool(int limit) { this.limit = limit; }
 
-    public Forklift acquire() throws InterruptedException { // refused: alarm: the expert sees no interruption
+    public Forklift acquire() throws InterruptedException { // accepted
         lock.lockInterruptibly();
         try {
             while (parked.isEmpty() && bought >= limit) {
@@ -45,7 +45,7 @@ public class ForkliftPool {
         }
     }
 
-    public Optional<Forklift> acquire(long timeout, TimeUnit unit) throws InterruptedException { // refused: alarm: the expert sees no interruption
+    public Optional<Forklift> acquire(long timeout, TimeUnit unit) throws InterruptedException { // accepted
         long nanos = unit.toNanos(timeout);
         lock.lockInterruptibly();
         try {
@@ -70,7 +70,7 @@ public class ForkliftPool {
         }
     }
 
-    public void release(Forklift lift) { // refused: alarm: the expert sees no interruption
+    public void release(Forklift lift) { // accepted
         lock.lock();
         try {
             if (!busy.remove(lift)) {
@@ -102,7 +102,7 @@ public class ForkliftPool {
         }
     }
 
-    public int limit() { return limit; } // accepted: one look at a field without its lock, which is told as a data race
+    public int limit() { return limit; } // refused: fault: one look at a field without its lock
 
     public int parkedCount() { return parked.size(); } // refused: fault: ArrayDeque.size() without the lock combines head, tail and the length of the array: while T2's release() grows the array T1 computes a count that never was; also a data race
 

@@ -11,7 +11,7 @@ public class ManifestText implements CharSequence {
     private int count;
     private int lines = -1;
 
-    public synchronized ManifestText append(CharSequence text) { // refused: alarm: the expert sees no interruption
+    public synchronized ManifestText append(CharSequence text) { // accepted
         String s = text.toString();
         ensure(count + s.length());
         s.getChars(0, s.length(), value, count);
@@ -25,15 +25,15 @@ public class ManifestText implements CharSequence {
         return append("\n");
     }
 
-    public synchronized ManifestText insert(int at, String s) { // refused: alarm: the expert sees no interruption
+    public synchronized ManifestText insert(int at, String s) { // accepted
         return replace(at, at, s);
     }
 
-    public synchronized ManifestText delete(int from, int to) { // refused: alarm: the expert sees no interruption
+    public synchronized ManifestText delete(int from, int to) { // accepted
         return replace(from, to, "");
     }
 
-    public synchronized ManifestText replace(int from, int to, String s) { // refused: alarm: the expert sees no interruption
+    public synchronized ManifestText replace(int from, int to, String s) { // accepted
         if (from < 0 || from > to || to > count) {
             throw new IndexOutOfBoundsException(from + ".." + to + " of " + count);
         }
@@ -59,7 +59,7 @@ public class ManifestText implements CharSequence {
     public synchronized int length() { return count; } // accepted
 
     @Override
-    public boolean isEmpty() { return count == 0; } // accepted: one look at a field without its lock, which is told as a data race
+    public boolean isEmpty() { return count == 0; } // refused: fault: one look at a field without its lock
 
     @Override
     public synchronized char charAt(int index) { // accepted

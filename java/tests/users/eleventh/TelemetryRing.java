@@ -61,7 +61,7 @@ public class TelemetryRing<T> implements Iterable<T> {
 
     public synchronized int size() { return size; } // accepted
 
-    public boolean isFull() { // accepted: one look at a field without its lock, which is told as a data race
+    public boolean isFull() { // refused: fault: one look at a field without its lock
         synchronized (slots) { return size == slots.length; }
     }
 

@@ -92,7 +92,7 @@ public class BlockingRing<E> {
     }
 
     public synchronized boolean isFull() { return count == items.length; } // accepted
-    public boolean isClosed() { return closed; } // accepted: one look; that it is a data race is told
+    public boolean isClosed() { return closed; } // refused: fault: one look at a field without its lock
 
     public int capacity() { return items.length; } // accepted
 

@@ -56,7 +56,7 @@ public class UndoableText {
     public synchronized boolean undo() { return shift(undo, redo); } // accepted
     public synchronized boolean redo() { return shift(redo, undo); } // accepted
 
-    public synchronized int undoAll() { // refused: alarm: the loop is under the monitor
+    public synchronized int undoAll() { // accepted
         int n = 0;
         while (undo()) n++;
         return n;
@@ -89,7 +89,7 @@ public class UndoableText {
         modified = false;
     }
 
-    public boolean isModified() { return modified; } // accepted: one look; that it is a data race is told
+    public boolean isModified() { return modified; } // refused: fault: one look at a field without its lock
     public synchronized char charAt(int i) { return text.charAt(i); } // accepted
 
     public synchronized List<Edit> history() { return List.copyOf(undo); } // accepted

@@ -33,7 +33,7 @@ public class AuditTrail {
     private final List<Consumer<Line>> listeners = new CopyOnWriteArrayList<>();
     private long lastSeq;
 
-    public Line append(Level level, String text) { // refused: alarm: the expert sees no interruption
+    public Line append(Level level, String text) { // accepted
         rw.writeLock().lock();
         try {
             Line line = new Line(++lastSeq, level, text);

@@ -96,7 +96,7 @@ public final class DispatchQueue<T> {
 
     public int remaining() { return limit - snapshot().size(); } // accepted
 
-    public boolean isClosed() { return closed; } // accepted: one look at a field without its lock, which is told as a data race
+    public boolean isClosed() { return closed; } // refused: fault: one look at a field without its lock
 
     public void close() { // accepted
         lock.lock();

@@ -23,7 +23,7 @@ abstract class LeaseBase<R> {
 
     protected abstract R create();
 
-    public Optional<R> borrow() { // refused: alarm: the expert sees no interruption
+    public Optional<R> borrow() { // accepted
         lock.lock();
         try {
             if (shut) return Optional.empty();
@@ -36,7 +36,7 @@ abstract class LeaseBase<R> {
         }
     }
 
-    public boolean giveBack(R r) { // refused: alarm: the expert sees no interruption
+    public boolean giveBack(R r) { // accepted
         lock.lock();
         try {
             if (!out.remove(r)) return false;

@@ -64,7 +64,7 @@ public class WorkerPool {
 
     public boolean isQuiet() { synchronized (tasks) { return isIdle(); } } // accepted
 
-    public int peak() { return peak; } // accepted: one look; that it is a data race is told
+    public int peak() { return peak; } // refused: fault: one look at a field without its lock
 
     public void awaitQuiet() throws InterruptedException { // accepted
         synchronized (tasks) {
@@ -93,7 +93,7 @@ public class WorkerPool {
         return rest;
     }
 
-    public void addDoneHook(Runnable hook) { synchronized (tasks) { doneHooks.add(hook); } } // refused: alarm: one critical section, one add
+    public void addDoneHook(Runnable hook) { synchronized (tasks) { doneHooks.add(hook); } } // accepted
 
     public void runHooks() { for (Runnable hook : doneHooks) hook.run(); } // refused: fault: data race on doneHooks
 

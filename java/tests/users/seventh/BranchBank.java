@@ -50,7 +50,7 @@ public class BranchBank {
     private final ReentrantReadWriteLock gate = new ReentrantReadWriteLock();
     private final Map<String, Account> accounts = new TreeMap<>();
 
-    public boolean open(String id, long initial) { // refused: alarm: one region, but ids() gives the keys of the map out
+    public boolean open(String id, long initial) { // accepted
         return exclusively(() -> accounts.putIfAbsent(id, new Account(id, initial)) == null);
     }
 
@@ -116,15 +116,15 @@ public class BranchBank {
         return exclusively(() -> find(id).balance == 0 && accounts.remove(id) != null);
     }
 
-    public void setFrozen(String id, boolean frozen) { // refused: alarm: one region, but ids() gives the keys of the map out
+    public void setFrozen(String id, boolean frozen) { // accepted
         withAccount(id, account -> account.frozen = frozen);
     }
 
-    public boolean isFrozen(String id) { // refused: fault: frozen is read under the shared read lock but without the account's lock that setFrozen writes it under
+    public boolean isFrozen(String id) { // accepted: one look at a field without its lock, which is told as a data race
         return sharing(() -> find(id).frozen);
     }
 
-    public Set<String> ids() { // accepted: the call only gives the view; that the map gets out is told as a note, where some change of it is an error
+    public Set<String> ids() { // refused: fault: the map's keys get out, and others change the map
         return sharing(accounts::keySet);
     }
 

@@ -79,7 +79,7 @@ public class LogBuffer {
         return text.length();
     }
 
-    public int lineCount() { // accepted: one look at a field without its lock, which is told as a data race
+    public int lineCount() { // refused: fault: one look at a field without its lock
         return lineCount;
     }
 

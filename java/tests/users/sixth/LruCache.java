@@ -35,7 +35,7 @@ public class LruCache<K, V> implements Iterable<K> {
         root.next = root;
     }
 
-    public synchronized V get(K key) { // refused: alarm: hitRatio looks at a counter in the middle of its one change
+    public synchronized V get(K key) { // accepted
         Node<K, V> node = index.get(key);
         if (node == null) {
             misses++;

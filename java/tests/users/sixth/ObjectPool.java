@@ -89,7 +89,7 @@ public class ObjectPool<T> implements AutoCloseable {
         return new Stats(idle(), inUse());
     }
 
-    public int created() { // accepted: one look at a field without its lock, which is told as a data race
+    public int created() { // refused: fault: one look at a field without its lock
         return created;
     }
 

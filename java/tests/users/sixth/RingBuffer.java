@@ -80,7 +80,7 @@ public class RingBuffer<E> {
         return count == 0;
     }
 
-    public int size() { // accepted: one look at a field without its lock, which is told as a data race
+    public int size() { // refused: fault: one look at a field without its lock
         return count;
     }
 
@@ -114,7 +114,7 @@ public class RingBuffer<E> {
     }
 
     /** Moves the oldest element to the end of the queue. */
-    public synchronized void rotate() { // refused: fault: only through the unlocked size(): count is written twice (n-1, then n), so with n elements and no remover size() can return n-1; all locked observers see it as atomic
+    public synchronized void rotate() { // accepted: the look without the lock is refused in its place
         if (count > 1) {
             E oldest = dequeue();
             enqueue(oldest);

@@ -114,7 +114,7 @@ public class ChainTable<K, V> {
 
     private int index(K key) { return (key.hashCode() & 0x7fffffff) % cells.length; }
 
-    private Cell<K, V> lookup(K key) {
+    private Cell<K, V> lookup(K key) { // refused: fault: a caller holds no lock
         Cell<K, V> c = cells[index(key)];
         while (c != null && !c.key.equals(key)) c = c.next;
         return c;

@@ -95,7 +95,7 @@ public class CharPipe {
 
     public synchronized int available() { return used; } // accepted
 
-    public boolean isClosed() { return eof; } // accepted: one look at a field without its lock, which is told as a data race
+    public boolean isClosed() { return eof; } // refused: fault: one look at a field without its lock
 
     public void close() { // refused: fault: eof is set before the listeners are told: another thread's addCloseListener(l) begins after read() gave it -1 (the pipe is closed), and l is still told; in whole calls a listener added after the close is never told
         synchronized (this) {

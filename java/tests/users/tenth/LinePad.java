@@ -20,7 +20,7 @@ public class LinePad implements Cloneable {
 
     public static synchronized int padCount() { return pads; } // accepted
 
-    public synchronized LinePad append(String s) { // refused: alarm: the expert sees no interruption
+    public synchronized LinePad append(String s) { // accepted
         return insert(len, s);
     }
 
@@ -30,11 +30,11 @@ public class LinePad implements Cloneable {
         return this;
     }
 
-    public LinePad appendRow(String s) { // refused: alarm: the expert sees no interruption
+    public LinePad appendRow(String s) { // accepted
         return append(s + "\n");
     }
 
-    public synchronized LinePad insert(int at, String s) { // refused: alarm: the expert sees no interruption
+    public synchronized LinePad insert(int at, String s) { // accepted
         if (at < 0 || at > len) {
             throw new IndexOutOfBoundsException("at " + at);
         }
@@ -49,7 +49,7 @@ public class LinePad implements Cloneable {
         return this;
     }
 
-    public synchronized LinePad delete(int from, int to) { // refused: alarm: the expert sees no interruption
+    public synchronized LinePad delete(int from, int to) { // accepted
         if (from < 0 || from > to || to > len) {
             throw new IndexOutOfBoundsException(from + ".." + to);
         }
@@ -59,7 +59,7 @@ public class LinePad implements Cloneable {
         return this;
     }
 
-    public synchronized void clear() { // refused: alarm: the expert sees no interruption
+    public synchronized void clear() { // accepted
         text = new char[16];
         len = 0;
         edits++;
@@ -93,7 +93,7 @@ public class LinePad implements Cloneable {
         }
     }
 
-    public int getEdits() { return edits; } // accepted: one look at a field without its lock, which is told as a data race
+    public int getEdits() { return edits; } // refused: fault: one look at a field without its lock
 
     public boolean equals(Object o) { // refused: fault: two snapshots: this "a", other "b": takes "a" of this; another thread runs this.append("x"), then other.clear() and other.append("a"); the other's snapshot is "a": true, though the two were never equal
         return o instanceof LinePad && toString().equals(o.toString());

@@ -19,7 +19,7 @@ public class TallyBoard {
     private volatile int generation;
     private String title;
 
-    public static TallyBoard getShared() { // refused: alarm: the expert sees no interruption
+    public static TallyBoard getShared() { // accepted
         if (shared == null) {
             synchronized (TallyBoard.class) {
                 if (shared == null) {
@@ -38,7 +38,7 @@ public class TallyBoard {
         return new TallyBoard();
     }
 
-    public static int getBoards() { return boards; } // accepted: one look at a field without its lock, which is told as a data race
+    public static int getBoards() { return boards; } // refused: fault: one look at a field without its lock
 
     public int count(String name) { // accepted
         synchronized (counts) {
@@ -92,7 +92,7 @@ public class TallyBoard {
         }
     }
 
-    public synchronized void tick(int slot) { // refused: alarm: the expert sees no interruption
+    public synchronized void tick(int slot) { // accepted
         hist[slot]++;
         notifyAll();
     }

@@ -26,7 +26,7 @@ public class TellerVault implements Cloneable {
         return new TellerVault(branch, nextNumber++);
     }
 
-    public static int openedCount() { return opened; } // accepted: one look at a field without its lock, which is told as a data race
+    public static int openedCount() { return opened; } // refused: fault: one look at a field without its lock
 
     public int getNumber() { return number; } // accepted
 

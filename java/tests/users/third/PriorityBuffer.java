@@ -92,7 +92,7 @@ public final class PriorityBuffer<E> {
         return Arrays.asList(copy);
     }
 
-    public int waiters() { return waiters; } // accepted: one look; that it is a data race is told
+    public int waiters() { return waiters; } // refused: fault: one look at a field without its lock
     public int size() { return sorted().size(); } // refused: alarm: one critical section
     public int free() { return heap.length - size(); } // refused: alarm: one critical section
 

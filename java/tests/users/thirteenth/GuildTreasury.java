@@ -25,7 +25,7 @@ abstract class Treasury {
         }
     }
 
-    public void deposit(long amount) { // refused: alarm: the expert sees no interruption
+    public void deposit(long amount) { // accepted
         lock.lock();
         try {
             gold += amount;
@@ -35,7 +35,7 @@ abstract class Treasury {
         }
     }
 
-    public boolean spend(long amount) { // refused: alarm: the expert sees no interruption
+    public boolean spend(long amount) { // accepted
         lock.lock();
         try {
             if (gold < amount) return false;
@@ -119,5 +119,5 @@ public class GuildTreasury extends Treasury {
         }
     }
 
-    public String motto() { return motto; } // accepted: one look at a field without its lock, which is told as a data race
+    public String motto() { return motto; } // refused: fault: one look at a field without its lock
 }

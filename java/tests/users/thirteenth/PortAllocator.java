@@ -46,7 +46,7 @@ public class PortAllocator {
         this.strategy = strategy;
     }
 
-    public Optional<Lease> lease(String owner) { // refused: alarm: the expert sees no interruption
+    public Optional<Lease> lease(String owner) { // accepted
         synchronized (used) {
             int index = used.nextClearBit(strategy == Strategy.LOWEST ? 0 : cursor);
             if (index >= count) {

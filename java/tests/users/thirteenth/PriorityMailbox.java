@@ -81,7 +81,7 @@ public class PriorityMailbox<T> implements Mailbox<T>, Iterable<T> {
         }
     }
 
-    public int total() { // accepted: one look at a field without its lock, which is told as a data race
+    public int total() { // refused: fault: one look at a field without its lock
         return total;
     }
 

@@ -23,11 +23,11 @@ public class UndoableText {
     private int gapEnd = 32;
     private volatile long version;
 
-    public synchronized void insert(int at, String text) { // refused: alarm: the expert sees no interruption
+    public synchronized void insert(int at, String text) { // accepted
         commit(new Edit(true, at, text));
     }
 
-    public synchronized String delete(int from, int to) { // refused: alarm: the expert sees no interruption
+    public synchronized String delete(int from, int to) { // accepted
         String gone = contents().substring(from, to);
         commit(new Edit(false, from, gone));
         return gone;
@@ -61,7 +61,7 @@ public class UndoableText {
         }
     }
 
-    public synchronized boolean undo() { // refused: alarm: the expert sees no interruption
+    public synchronized boolean undo() { // accepted
         if (done.isEmpty()) return false;
         apply(done.pop().inverse());
         version++;

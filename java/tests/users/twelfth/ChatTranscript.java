@@ -68,7 +68,7 @@ public class ChatTranscript {
     });
   }
 
-  public int redact(String word) { // refused: alarm: the expert sees no interruption
+  public int redact(String word) { // accepted
     if (word.isEmpty()) return 0;
     var mask = "*".repeat(word.length());
     return writing(() -> {
@@ -89,7 +89,7 @@ public class ChatTranscript {
     return reading(text::toString);
   }
 
-  public void clear() { // refused: alarm: the expert sees no interruption
+  public void clear() { // accepted
     writing(() -> {
       text.setLength(0);
       starts.clear();

@@ -22,7 +22,7 @@ public class DecoderPool extends ResourcePool<DecoderPool.Decoder> {
       this.codec = codec;
     }
 
-    public synchronized int decode(byte[] frame) { // refused: alarm: the expert sees no interruption
+    public synchronized int decode(byte[] frame) { // accepted
       frames++;
       return frame.length * (codec.ordinal() + 1);
     }
@@ -77,7 +77,7 @@ abstract class ResourcePool<R> {
 
   protected abstract R create();
 
-  public R borrow() throws InterruptedException { // refused: alarm: the expert sees no interruption
+  public R borrow() throws InterruptedException { // accepted
     synchronized (mutex) {
       while (idle.isEmpty() && live == limit) mutex.wait();
       return idle.isEmpty() ? made() : idle.pop();
@@ -96,14 +96,14 @@ abstract class ResourcePool<R> {
     }
   }
 
-  public void giveBack(R resource) { // refused: alarm: the expert sees no interruption
+  public void giveBack(R resource) { // accepted
     synchronized (mutex) {
       idle.push(resource);
       mutex.notify();
     }
   }
 
-  public boolean grow() { // refused: alarm: the expert sees no interruption
+  public boolean grow() { // accepted
     synchronized (mutex) {
       if (live == limit) return false;
       giveBack(made());

@@ -24,7 +24,7 @@ public class OutboxBuffer<M> {
 
   public OutboxBuffer(int bound) { this.bound = bound; }
 
-  public void send(M message) throws InterruptedException { // refused: alarm: the expert sees no interruption
+  public void send(M message) throws InterruptedException { // accepted
     lock.lock();
     try {
       while (queue.size() == bound) notFull.await();
@@ -34,7 +34,7 @@ public class OutboxBuffer<M> {
     }
   }
 
-  public boolean offer(M message) { // refused: alarm: the expert sees no interruption
+  public boolean offer(M message) { // accepted
     lock.lock();
     try {
       if (queue.size() == bound) return false;
@@ -58,7 +58,7 @@ public class OutboxBuffer<M> {
     }
   }
 
-  public M receive() throws InterruptedException { // refused: alarm: the expert sees no interruption
+  public M receive() throws InterruptedException { // accepted
     lock.lock();
     try {
       while (queue.isEmpty() || paused) notEmpty.await();

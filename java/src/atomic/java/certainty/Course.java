@@ -4,6 +4,7 @@ import atomic.java.certainty.Event.Hold;
 import atomic.java.passes.Callees;
 import atomic.java.program.Program;
 import atomic.java.program.Touch;
+import atomic.java.skeleton.Field;
 import atomic.java.skeleton.Method;
 import atomic.java.skeleton.Part;
 import atomic.java.skeleton.Place;
@@ -150,7 +151,9 @@ final class Course {
             Touch touch = touches.get(access.place());
             Touch.Kind kind = access.write() ? Touch.Kind.CHANGE : Touch.Kind.LOOK;
             boolean known = touch != null && touch.kind().writes() == access.write();
-            event(access.field(), known ? touch : new Touch(access.field(), kind, ""));
+            if (!lacksGuard(access)) {
+                event(access.field(), known ? touch : new Touch(access.field(), kind, ""));
+            }
         } else if (part instanceof Part.Call call) {
             call(call, depth);
         } else if (part instanceof Part.Region region && region.mode() != Part.Mode.NONE) {
@@ -173,6 +176,13 @@ final class Course {
         } else {
             part.parts().forEach(each -> part(each, depth));
         }
+    }
+
+    /** Whether an access surely lacks its guard: that is an error by itself, and no reason for another one. */
+    private boolean lacksGuard(Part.Access access) {
+        Field.Guard guard = access.field().guard();
+        return guard != null && (access.write() || !guard.writesOnly())
+            && held.stream().noneMatch(each -> each.mayGuard(access.field()));
     }
 
     private void event(Object thing, Touch touch) {

@@ -4,6 +4,7 @@ import atomic.java.program.Touch;
 import atomic.java.skeleton.Field;
 import atomic.java.skeleton.Part;
 import atomic.java.skeleton.Path;
+import atomic.java.skeleton.Shape;
 import java.util.List;
 import java.util.Map;
 import javax.lang.model.element.VariableElement;
@@ -26,6 +27,18 @@ record Event(Object thing, Touch.Kind kind, String asked, List<Hold> held, Map<I
         /** Whether nobody can take the other lock meanwhile: it may be the same one, and not both are readers. */
         boolean keepsOut(Hold other) {
             return !(mode == Part.Mode.SHARED && other.mode == Part.Mode.SHARED) && mayBe(other);
+        }
+
+        /** Whether it may be the guard of a field. */
+        boolean mayGuard(Field field) {
+            List<Field> guard = field.guard().lock();
+            if (lock == null) {
+                return true;
+            } else if (!guard.isEmpty() && !lock.fields().isEmpty()) {
+                return last(lock) == guard.get(guard.size() - 1);
+            }
+            Shape type = guard.isEmpty() ? field.owner() : guard.get(guard.size() - 1).type();
+            return type == null || lock.type() == null || type.fits(lock.type()) || lock.type().fits(type);
         }
 
         private boolean mayBe(Hold other) {

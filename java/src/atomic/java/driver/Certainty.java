@@ -54,7 +54,7 @@ final class Certainty {
             String place = key.substring(0, key.indexOf(ERROR));
             if (sure == null) {
                 all.add(place + DOUBT);
-            } else if (!sure.get(0).endsWith(UNGUARDED)) {
+            } else if (!sure.get(0).endsWith(UNGUARDED) || !block.get(0).endsWith(UNGUARDED)) {
                 all.add(witnesses.getOrDefault(place, place + UNSEEN));
             }
         });

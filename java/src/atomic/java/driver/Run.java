@@ -142,7 +142,8 @@ public final class Run {
         unwritten.run();
         new Waiting(all, program.notes(), methods::origin, methods.wait(null)).strictly(options.strict())
             .apart(methods::copy).run();
-        Inference inference = new Inference(all, options.majority(), program.sure());
+        Inference inference = new Inference(all, options.majority(), program.sure())
+            .strictly(options.strict(), methods::origin);
         if (options.infer() || options.majority()) {
             inference.guards(program.names(), program.notes());
         }

@@ -156,7 +156,7 @@ public final class Escape {
             case PARENTHESIZED -> attribution.parent(parent).getKind() == Tree.Kind.SYNCHRONIZED ? NEVER : from(parent);
             case TYPE_CAST -> from(parent);
             case EXPRESSION_STATEMENT -> NEVER;
-            case LAMBDA_EXPRESSION -> attribution.start(parent);
+            case LAMBDA_EXPRESSION -> given(parent);
             default -> attribution.start(use);
         };
     }
@@ -174,7 +174,13 @@ public final class Escape {
         Choice choice = program.library().choose(attribution.type(reference.getQualifierExpression()), Library.key(symbol));
         boolean shows = choice.kind() == Choice.Kind.VIEW || choice.kind() == Choice.Kind.PIPE
             || results.mentionsEntry(attribution.type(reference));
-        return shows ? attribution.start(reference) : choice.kind() == Choice.Kind.UNKNOWN ? unknown(reference) : NEVER;
+        return shows ? given(reference) : choice.kind() == Choice.Kind.UNKNOWN ? unknown(reference) : NEVER;
+    }
+
+    /** What a function gives goes to whoever calls it; by way of a helper that may be the method's caller alone. */
+    private long given(Tree function) {
+        return this == within && isHandedOn.test(function) && new GivenBack(program, uses).isGiven(function)
+            ? NEVER : attribution.start(function);
     }
 
     private long asReceiver(MemberSelectTree select) {
@@ -293,21 +299,13 @@ public final class Escape {
         if (program.isAccessor(symbol)) {
             return Choice.ACCESSOR;
         }
-        if (attribution.parent(select) instanceof MethodInvocationTree call && spreads(call, symbol)) {
+        if (attribution.parent(select) instanceof MethodInvocationTree call && results.spreads(call, symbol)) {
             return program.library().choose("java.util.Arrays", "stream");
         }
         TypeMirror type = select instanceof MemberSelectTree member ? attribution.type(member.getExpression()) : null;
         boolean isStatic = symbol.getModifiers().contains(javax.lang.model.element.Modifier.STATIC);
         return program.library().choose(type == null || isStatic ? symbol.getEnclosingElement().asType() : type,
             Library.key(symbol));
-    }
-
-    /** Whether an array is given for all the values of a stream, which then shows its contents as {@code Arrays.stream} does. */
-    public boolean spreads(MethodInvocationTree call, ExecutableElement symbol) {
-        return symbol.isVarArgs() && symbol.getEnclosingElement().toString().startsWith("java.util.stream.")
-            && call.getArguments().size() == 1 && attribution.type(call.getArguments().get(0)) instanceof ArrayType given
-            && !(given.getComponentType().getKind().isPrimitive() && symbol.getEnclosingElement().toString()
-                .equals("java.util.stream.Stream"));
     }
 
     private boolean isBorrowed(NewClassTree made) {

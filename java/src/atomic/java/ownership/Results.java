@@ -6,6 +6,7 @@ import com.sun.source.tree.MethodInvocationTree;
 import com.sun.source.tree.Tree;
 import java.util.Set;
 import javax.lang.model.element.ElementKind;
+import javax.lang.model.element.ExecutableElement;
 import javax.lang.model.element.TypeElement;
 import javax.lang.model.type.ArrayType;
 import javax.lang.model.type.DeclaredType;
@@ -18,7 +19,7 @@ import javax.lang.model.type.WildcardType;
  * {@code getOrDefault} and {@code orElse} give it back, {@code Optional.of} and {@code List.of} give what holds it. Types
  * decide. A number, a text or a constant is no such thing, nor is an element of the collection that was given.
  */
-final class Results {
+public final class Results {
     private static final Set<String> VALUES = Set.of("java.lang.String", "java.lang.Boolean", "java.lang.Character",
         "java.lang.Byte", "java.lang.Short", "java.lang.Integer", "java.lang.Long", "java.lang.Float", "java.lang.Double",
         "java.lang.Number", "java.lang.Void", "java.math.BigInteger", "java.math.BigDecimal", "java.lang.Class");
@@ -27,7 +28,7 @@ final class Results {
 
     private final Attribution attribution;
 
-    Results(Attribution attribution) {
+    public Results(Attribution attribution) {
         this.attribution = attribution;
     }
 
@@ -115,5 +116,13 @@ final class Results {
 
     private static String name(DeclaredType type) {
         return ((TypeElement) type.asElement()).getQualifiedName().toString();
+    }
+
+    /** Whether an array is given for all the values of a stream, which then shows its contents as {@code Arrays.stream} does. */
+    public boolean spreads(MethodInvocationTree call, ExecutableElement symbol) {
+        return symbol.isVarArgs() && symbol.getEnclosingElement().toString().startsWith("java.util.stream.")
+            && call.getArguments().size() == 1 && attribution.type(call.getArguments().get(0)) instanceof ArrayType given
+            && !(given.getComponentType().getKind().isPrimitive() && symbol.getEnclosingElement().toString()
+                .equals("java.util.stream.Stream"));
     }
 }

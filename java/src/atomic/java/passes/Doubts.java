@@ -83,7 +83,7 @@ public final class Doubts {
     }
 
     /** Whether an access is one of an object that a local has from a call: which lock guards it isn't known. */
-    private static boolean isAnyObject(Part.Access access) {
+    static boolean isAnyObject(Part.Access access) {
         return access.field().mayBeGuarded() && access.receiver().path() != null
             && access.receiver().path().root().kind() == Path.Kind.LOCAL;
     }

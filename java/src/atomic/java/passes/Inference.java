@@ -16,12 +16,15 @@ import java.util.LinkedHashMap;
 import java.util.List;
 import java.util.Map;
 import java.util.Set;
+import java.util.function.Function;
 import java.util.stream.Collectors;
 import java.util.stream.IntStream;
 
 /**
- * Guards of fields that say none. A lock that each access of a field holds guards it; one that each write holds guards its
- * writes. With {@code majority} one that most accesses hold guards it too, and the others are told as errors.
+ * Guards of fields that say none. A lock that each access of a field holds guards it. One that each write holds and most
+ * looks too guards it all the same: a look without it is told as an error, and what is said of other methods holds once that
+ * one is mended. One that each write holds and few looks guards the writes alone. With {@code majority} one that most
+ * accesses hold guards a field, whether they write or not.
  */
 public final class Inference {
 
@@ -31,10 +34,13 @@ public final class Inference {
     private final Collection<Method> methods;
     private final boolean majority;
     private final boolean sure;
+    private boolean strict;
+    private Function<Method, Object> origin = method -> null;
     private final Map<Field, Tally> tallies = new LinkedHashMap<>();
     private UnderLock underLock;
+    private OtherNames names;
 
-    /** Of a hundred accesses, how many have to hold a lock so that the others are told as races. */
+    /** Of a hundred accesses, how many have to hold a lock so that the others are told as races, and lack their guard. */
     private static final int MOST_OF_RACE = 50;
 
     /** How often a field is touched, and how often with each lock, named from its object. */
@@ -42,8 +48,16 @@ public final class Inference {
         private int all;
         private final Map<Place, Set<List<Field>>> places = new LinkedHashMap<>();
         private int writes;
+        /** The locks at each access that may hold one more under another name. */
+        private final Set<Set<List<Field>>> doubtful = new HashSet<>();
         private final Map<List<Field>, Integer> held = new HashMap<>();
         private final Map<List<Field>, Integer> heldWriting = new HashMap<>();
+
+        /** The first place at which a lock isn't held, or null. */
+        private Place open(List<Field> lock) {
+            return places.entrySet().stream().filter(each -> !each.getValue().contains(lock)).map(Map.Entry::getKey).sorted()
+                .findFirst().orElse(null);
+        }
     }
 
     /** Where only what is {@code sure} counts, a change that holds its lock is one step. */
@@ -53,23 +67,59 @@ public final class Inference {
         this.sure = sure;
     }
 
+    /** Nothing is said that rests on what is told as an error; {@code origins} give the Java method of each method. */
+    public Inference strictly(boolean strictly, Function<Method, Object> origins) {
+        strict = strictly;
+        origin = origins;
+        return this;
+    }
+
     /** Gives guards to the fields that have none, and tells of accesses that keep a field from having one. */
-    public void guards(Names names, Notes notes) {
+    public void guards(Names shown, Notes notes) {
         underLock = new UnderLock(methods);
-        new Held(methods).visit(this::count);
+        Held all = new Held(methods);
+        names = new OtherNames(all);
+        all.visit(this::count);
         tallies.forEach((field, tally) -> {
-            List<Field> lock = field.mayBeGuarded() || sure && field.ordered() ? best(tally.held, tally.all) : null;
-            List<Field> writing = best(tally.heldWriting, tally.writes);
-            if (lock != null) {
-                field.guard(new Field.Guard(lock, false));
+            List<Field> lock = field.mayBeGuarded() || sure && field.ordered() ? best(tally.held, tally.all, tally) : null;
+            List<Field> writing = lock == null ? best(tally.heldWriting, tally.writes, tally) : null;
+            boolean most = writing != null && isMost(field, tally, writing);
+            if (lock != null || most) {
+                field.guard(new Field.Guard(most ? writing : lock, false));
             } else if (writing != null) {
                 field.guard(new Field.Guard(writing, true));
                 field.changesWhole(sure);
             }
             if (lock == null && field.mayBeGuarded() && field.place() != null) {
-                races(field, tally, names, notes);
+                races(field, tally, shown, notes);
+            }
+            if (most) {
+                mended(field, tally.open(writing), shown, notes);
             }
         });
+    }
+
+    /**
+     * Whether most accesses of a field hold the lock that all its writes hold, and the others surely don't, so that a look
+     * without it is an error.
+     */
+    private boolean isMost(Field field, Tally tally, List<Field> lock) {
+        return !strict && field.mayBeGuarded() && field.place() != null && !field.isOfOne()
+            && tally.doubtful.stream().allMatch(each -> each.contains(lock))
+            && 100 * tally.held.getOrDefault(lock, 0) >= MOST_OF_RACE * tally.all;
+    }
+
+    /** What is said of the methods that touch a field rests on the looks without its lock, which are told as errors. */
+    private void mended(Field field, Place look, Names names, Notes notes) {
+        methods.stream().filter(each -> touches(each.body(), field)).forEach(each ->
+            notes.tell(Notes.Kind.ASSUMED, origin.apply(each), look == null ? field.place() : look,
+                "looks at " + names.shown(field.name()) + " without its lock are mended: what is said of other methods rests on"
+                    + " that"));
+    }
+
+    private static boolean touches(Part part, Field field) {
+        return part instanceof Part.Access access && access.field() == field
+            || part.parts().stream().anyMatch(each -> touches(each, field));
     }
 
     /** The accesses without the lock that most of them hold. */
@@ -114,22 +164,24 @@ public final class Inference {
         if (Doubts.isCertain(access, underLock.isAlways(method) && method.required().isEmpty())) {
             tally.places.put(access.place(), here);
         }
+        if (!isCertain(method, access, held)) {
+            tally.doubtful.add(here);
+        }
     }
 
-    /** The lock that all hold, or most; the one with the shortest name of several. */
-    private List<Field> best(Map<List<Field>, Integer> held, int all) {
-        List<Field> best = null;
-        int count = 0;
-        for (Map.Entry<List<Field>, Integer> each : held.entrySet()) {
-            boolean enough = majority ? 100 * each.getValue() >= MOST * all : each.getValue() == all;
-            boolean better = best == null || each.getValue() > count
-                || each.getValue() == count && isBefore(each.getKey(), best);
-            if (all > 0 && enough && better) {
-                best = each.getKey();
-                count = each.getValue();
-            }
-        }
-        return best;
+    /** Whether an access surely holds no lock of its field under another name. */
+    private boolean isCertain(Method method, Part.Access access, Set<Path> held) {
+        boolean dark = underLock.isAlways(method) && method.required().isEmpty();
+        return access.receiver().path() != null && !dark && !names.mayBeHeld(access)
+            && !(!held.isEmpty() && (access.field().ofNodes() || Doubts.isAnyObject(access)));
+    }
+
+    /** The lock that all hold, or most; of several the one that more accesses hold, and then that with the shortest name. */
+    private List<Field> best(Map<List<Field>, Integer> held, int all, Tally tally) {
+        return held.entrySet().stream().filter(each -> all > 0
+                && (majority ? 100 * each.getValue() >= MOST * all : each.getValue() == all)).map(Map.Entry::getKey)
+            .min(Comparator.comparing((List<Field> each) -> -held.get(each)).thenComparing(each -> -tally.held.get(each))
+                .thenComparing((one, other) -> one.equals(other) ? 0 : isBefore(one, other) ? -1 : 1)).orElse(null);
     }
 
     /** Whether a lock has the shorter name, or that which comes first of two as long. No two locks have the same. */

@@ -19,6 +19,7 @@ public final class Field {
     private boolean wide;
     private boolean ordered;
     private boolean ofNodes;
+    private boolean ofOne;
     private boolean contents;
     private boolean lock;
     private boolean made;
@@ -165,6 +166,15 @@ public final class Field {
 
     public void standForNodes() {
         ofNodes = true;
+    }
+
+    /** Whether one thread alone touches it by the habit of Java's libraries, such as where an iterator stands. */
+    public boolean isOfOne() {
+        return ofOne;
+    }
+
+    public void leaveToOne() {
+        ofOne = true;
     }
 
     /** Whether an access without a guard is several steps: of 64 bits, or of an object that isn't safe by itself. */

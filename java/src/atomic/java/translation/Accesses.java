@@ -80,7 +80,7 @@ final class Accesses {
         if (body.stable().contains(field) && isOwn(at)) {
             services.methods().repeats(services.attribution().name(at), services.attribution().name(at));
         } else if (!settled && !(looksAgain(field, at) && services.program().sure()) && !isStable(field, at)
-                && !services.cursors().leavesOut(field, at)) {
+                && !services.cursors().leavesOut(field, home.field(), at)) {
             access(holder, home.field(), false, at);
             new Versions(services).note(field, false, at);
             new Lazies(services).note(field, false, at);
@@ -195,7 +195,7 @@ final class Accesses {
             foreign(field, receiver, true, at);
         } else if (!services.fields().isSettled(field)) {
             Fields.Home home = services.fields().home(field);
-            if (!isStable(field, at) && !services.cursors().leavesOut(field, at)) {
+            if (!isStable(field, at) && !services.cursors().leavesOut(field, home.field(), at)) {
                 access(holder(field, home, receiver), home.field(), true, at);
                 new Versions(services).note(field, true, at);
                 new Lazies(services).note(field, true, at);

@@ -136,7 +136,8 @@ final class Contents {
         if (object instanceof Value.Fresh) {
             return true;
         } else if (object instanceof Value.Owned owned) {
-            boolean walks = services.cursors().leavesOut(services.fields().holder(owned.contents()), at);
+            boolean walks = services.cursors().leavesOut(services.fields().holder(owned.contents()), owned.contents(),
+                at);
             if (!walks && !(owned.receiver() instanceof Value.Fresh)) {
                 new Touches(services).note(at);
                 body.emit(new Part.Access(owned.receiver(), owned.contents(), write, services.attribution().name(at)));

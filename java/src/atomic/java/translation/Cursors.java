@@ -2,6 +2,7 @@ package atomic.java.translation;
 
 import atomic.java.program.Families;
 import atomic.java.program.JavaClass;
+import atomic.java.skeleton.Field;
 import com.sun.source.tree.ClassTree;
 import com.sun.source.tree.ExpressionTree;
 import com.sun.source.tree.MethodTree;
@@ -32,9 +33,10 @@ final class Cursors {
     }
 
     /** Whether to touch a field, or what it holds, is no step, where only what is certain counts; where it is one, a hint. */
-    boolean leavesOut(VariableElement field, Tree at) {
+    boolean leavesOut(VariableElement field, Field touched, Tree at) {
         boolean own = field != null && services.facts().of(field, "of one thread", this::isOwn);
         if (own) {
+            touched.leaveToOne();
             services.hint(at, "own field: one thread alone has an iterator or a builder, as a rule, so that nobody else touches "
                 + field.getSimpleName() + "; it counts as a step all the same");
         }

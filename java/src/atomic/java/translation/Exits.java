@@ -8,6 +8,8 @@ import atomic.java.skeleton.Field;
 import atomic.java.skeleton.Method;
 import atomic.java.skeleton.Part;
 import atomic.java.skeleton.Value;
+import com.sun.source.tree.ExpressionTree;
+import com.sun.source.tree.LambdaExpressionTree;
 import com.sun.source.tree.MethodTree;
 import com.sun.source.tree.NewClassTree;
 import com.sun.source.tree.ReturnTree;
@@ -55,6 +57,9 @@ final class Exits {
     /** Whether an object only goes to the caller of a method that is refused for that, and that nobody here calls. */
     private boolean isRefused(Tree use) {
         Tree around = services.program().around(use);
+        while (around instanceof LambdaExpressionTree lambda && lambda.getBody() instanceof ExpressionTree) {
+            around = services.program().around(lambda);
+        }
         JavaMethod method = around instanceof MethodTree
             ? services.program().method(services.attribution().element(around)) : null;
         return method != null && services.ownership().escape().returns(use) && services.methods().promises(method)

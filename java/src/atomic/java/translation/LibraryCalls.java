@@ -2,6 +2,7 @@ package atomic.java.translation;
 
 import atomic.java.library.Choice;
 import atomic.java.library.Library;
+import atomic.java.ownership.Results;
 import atomic.java.ownership.Uses;
 import atomic.java.places.Notes;
 import atomic.java.program.JavaClass;
@@ -75,7 +76,7 @@ final class LibraryCalls {
             return new Value.Fresh(null);
         }
         Choice choice = Pipelines.mayBeParallel(tree, symbol) ? Choice.UNKNOWN
-            : services.ownership().escape().spreads(tree, symbol)
+            : new Results(services.attribution()).spreads(tree, symbol)
             ? services.ownership().escape().choose(tree.getMethodSelect(), symbol) : choose(before, symbol, isStatic);
         List<Value> values = new ArrayList<>();
         body.over(choice.kind() == Choice.Kind.RUN ? object : body.element(), () ->
