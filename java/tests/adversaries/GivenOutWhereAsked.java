@@ -127,12 +127,12 @@ class IteratorGivenOut {
             private int next;
 
             @Override
-            public boolean hasNext() {
+            public boolean hasNext() { // refused
                 return next < count;
             }
 
             @Override
-            public String next() {
+            public String next() { // refused
                 return names[next++];
             }
         };

@@ -235,7 +235,7 @@ final class Calls {
         }
         JavaMethod constructor = services.program().method(services.attribution().element(tree));
         if (constructor == null) {
-            return new LibraryCalls(services, body).construct(tree);
+            return new Capacities(services, body).construct(tree);
         }
         new Initialisers(services).start(constructor.owner(), body, tree);
         List<Value> arguments = arguments(constructor, tree.getArguments());

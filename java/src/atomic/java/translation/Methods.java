@@ -64,6 +64,7 @@ public final class Methods {
             (waiting.isEmpty() ? last : waiting).remove().run();
         }
         services.exits().finish(origins.keySet());
+        services.liveObjects().finish(origins.keySet());
     }
 
     /** The Java method of each method that is judged for its own sake. */

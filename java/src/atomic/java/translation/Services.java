@@ -37,6 +37,7 @@ final class Services {
     private final Cursors cursors = new Cursors(this);
     private final Wrappers wrappers = new Wrappers(this);
     private final Exits exits = new Exits(this);
+    private final LiveObjects liveObjects = new LiveObjects(this);
     private final Map<String, Method> helpers = new HashMap<>();
     private final Facts facts = new Facts();
     private final Set<VariableElement> changed = new HashSet<>();
@@ -115,6 +116,11 @@ final class Services {
     /** Where what a field holds gets out. */
     Exits exits() {
         return exits;
+    }
+
+    /** Objects of the sources that methods give their callers. */
+    LiveObjects liveObjects() {
+        return liveObjects;
     }
 
     /** Library objects that keep one of the sources. */

@@ -173,7 +173,7 @@ final class Statements extends SimpleTreeVisitor<Void, Void> {
 
     @Override
     public Void visitReturn(ReturnTree tree, Void nothing) {
-        expressions.value(tree.getExpression());
+        services.liveObjects().give(expressions.value(tree.getExpression()), tree, body);
         return null;
     }
 
