@@ -25,21 +25,20 @@ import java.util.Set;
  */
 final class LiveObjects {
     private final Services services;
-    private final Map<JavaClass, Method> ways = new LinkedHashMap<>();
+    private final Map<JavaClass, Map<JavaMethod, Tree>> given = new LinkedHashMap<>();
 
     LiveObjects(Services services) {
         this.services = services;
     }
 
-    /** Writes what becomes of an object that a method gives back. */
-    void give(Value object, ReturnTree at, Body body) {
-        JavaClass given = object == null || object.type() == null || object instanceof Value.Fresh || isOfCaller(object) ? null
+    /** Notes which object a method gives back. */
+    void give(Value object, ReturnTree at) {
+        JavaClass type = object == null || object.type() == null || object instanceof Value.Fresh || isOfCaller(object) ? null
             : services.program().find(services.attribution().type(at.getExpression()));
-        if (given != null && !given.isInterface() && isAsked(services.program().around(at))) {
-            Method way = ways.computeIfAbsent(given, key -> services.blank("whoever is given this "
-                + key.symbol().getSimpleName(), Method.Doubt.ANY));
-            body.emit(new Part.Call(new Value.Opaque(services.program().helpers()), way, List.of(),
-                services.attribution().name(at.getExpression())));
+        JavaMethod method = services.program().around(at) instanceof MethodTree around
+            ? services.program().method(services.attribution().element(around)) : null;
+        if (type != null && !type.isInterface() && method != null && services.methods().promises(method)) {
+            given.computeIfAbsent(type, key -> new LinkedHashMap<>()).putIfAbsent(method, at.getExpression());
         }
     }
 
@@ -48,19 +47,18 @@ final class LiveObjects {
         return object.path() != null && object.path().fields().isEmpty() && object.path().root().kind() != Path.Kind.LOCAL;
     }
 
-    private boolean isAsked(Tree around) {
-        return around instanceof MethodTree && services.methods().promises(services.program().method(
-            services.attribution().element(around)));
-    }
-
     /** Where all methods are written: only what others change in one region, two fields of it, may be seen in halves. */
     void finish(Collection<Method> all) {
-        ways.forEach((given, way) -> {
+        given.forEach((type, givers) -> {
             Set<Field> shown = new HashSet<>();
-            all.stream().filter(each -> each.owner() == given.shape() && services.methods().origin(each) instanceof JavaMethod java
-                && java.isCallable() && !java.isConstructor()).forEach(each -> shown(each.body(), given.shape(), shown));
-            if (all.stream().anyMatch(each -> each.owner() != given.shape() && changesTwo(each.body(), shown))) {
+            all.stream().filter(each -> each.owner() == type.shape() && services.methods().origin(each) instanceof JavaMethod java
+                && java.isCallable() && !java.isConstructor()).forEach(each -> shown(each.body(), type.shape(), shown));
+            if (all.stream().anyMatch(each -> each.owner() != type.shape() && changesTwo(each.body(), shown))) {
+                Method way = services.blank("whoever is given this " + type.symbol().getSimpleName(), Method.Doubt.ANY);
                 services.fill(way, true);
+                all.stream().filter(each -> givers.containsKey(services.methods().origin(each))).forEach(each ->
+                    each.body(Part.sequence(List.of(each.body(), new Part.Call(new Value.Opaque(services.program().helpers()), way,
+                        List.of(), services.attribution().name(givers.get(services.methods().origin(each))))))));
             }
         });
     }

@@ -173,7 +173,7 @@ final class Statements extends SimpleTreeVisitor<Void, Void> {
 
     @Override
     public Void visitReturn(ReturnTree tree, Void nothing) {
-        services.liveObjects().give(expressions.value(tree.getExpression()), tree, body);
+        services.liveObjects().give(expressions.value(tree.getExpression()), tree);
         return null;
     }
 
