@@ -6,6 +6,7 @@ import atomic.java.library.Library;
 import atomic.java.options.Options;
 import atomic.java.options.Refusal;
 import atomic.java.skeleton.Method;
+import atomic.java.skeleton.Part;
 import atomic.java.skeleton.Place;
 import com.sun.source.tree.ClassTree;
 import com.sun.source.tree.CompilationUnitTree;
@@ -48,8 +49,9 @@ public final class Copies {
     /** Writes them all, and the skeleton that was judged, with the looks that don't count where another place is next, and the helpers. */
     public void write(String folder, List<Method> skeleton, Map<Place, Place> repeats, Set<Place> helpers) {
         try {
+            Set<Place> singles = singles(skeleton);
             for (CompilationUnitTree unit : attribution.units()) {
-                write(unit, Path.of(folder));
+                write(unit, Path.of(folder), singles);
             }
             Files.write(Path.of(folder, "skeleton.txt"), new SkeletonText(skeleton, repeats, helpers).lines());
         } catch (IOException | java.nio.file.InvalidPathException fault) {
@@ -57,9 +59,25 @@ public final class Copies {
         }
     }
 
-    private void write(CompilationUnitTree unit, Path folder) throws IOException {
+    /** Where a library's method is called that is one step by its object and its function, whatever the table says of others. */
+    private static Set<Place> singles(List<Method> skeleton) {
+        Set<Place> singles = new HashSet<>();
+        Set<Place> others = new HashSet<>();
+        skeleton.forEach(method -> gather(method.body(), singles, others));
+        singles.removeAll(others);
+        return singles;
+    }
+
+    private static void gather(Part part, Set<Place> singles, Set<Place> others) {
+        if (part instanceof Part.Call call && call.place() != null) {
+            (call.target().body() instanceof Part.Access ? singles : others).add(call.place());
+        }
+        part.parts().forEach(each -> gather(each, singles, others));
+    }
+
+    private void write(CompilationUnitTree unit, Path folder, Set<Place> singles) throws IOException {
         SourceText source = attribution.source(unit);
-        LoggedCopy copy = new LoggedCopy(attribution, library, classes, source.text(), atomic);
+        LoggedCopy copy = new LoggedCopy(attribution, library, classes, source.text(), atomic, singles);
         String named = unit.getPackageName() == null ? "" : unit.getPackageName().toString().replace('.', '/');
         Path path = folder.resolve(named).resolve(Path.of(source.file()).getFileName());
         Files.createDirectories(path.getParent());

@@ -2,6 +2,7 @@ package atomic.java.trace;
 
 import atomic.java.library.Choice;
 import atomic.java.library.Library;
+import atomic.java.skeleton.Place;
 import com.sun.source.tree.ArrayAccessTree;
 import com.sun.source.tree.ExpressionTree;
 import com.sun.source.tree.IdentifierTree;
@@ -29,11 +30,14 @@ final class LoggedCalls {
     private final LoggedCopy copy;
     private final Library library;
     private final Set<Element> classes;
+    private final Set<Place> singles;
 
-    LoggedCalls(LoggedCopy copy, Library library, Set<Element> classes) {
+    /** Of a copy; {@code singles} are the places of calls that are one step, whatever the table says. */
+    LoggedCalls(LoggedCopy copy, Library library, Set<Element> classes, Set<Place> singles) {
         this.copy = copy;
         this.library = library;
         this.classes = classes;
+        this.singles = singles;
     }
 
     String of(MethodInvocationTree call) {
@@ -93,7 +97,8 @@ final class LoggedCalls {
         boolean attempt = ATTEMPTS.contains(name) && choice.kind() == Choice.Kind.STEP && call.getArguments().size() == 2;
         boolean looks = name.equals("get") && choice.kind() == Choice.Kind.STEP && call.getArguments().isEmpty();
         boolean updates = UPDATES.contains(name) && owner(called).startsWith("java.util.concurrent.atomic.");
-        String kind = attempt ? "tries" : looks ? "reads" : updates ? "step" : kind(choice);
+        boolean single = choice.kind() == Choice.Kind.COMPOUND && singles.contains(copy.attribution().name(call));
+        String kind = attempt ? "tries" : looks ? "reads" : updates || single ? "step" : kind(choice);
         boolean plainObject = object == null || object instanceof IdentifierTree word && word.getName().contentEquals("super");
         String place = copy.at(call) + ", \"" + kind + "\", ";
         if (isStatic || plainObject || kind.isEmpty()) {

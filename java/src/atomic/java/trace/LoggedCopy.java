@@ -2,6 +2,7 @@ package atomic.java.trace;
 
 import atomic.java.attribution.Attribution;
 import atomic.java.library.Library;
+import atomic.java.skeleton.Place;
 import com.sun.source.tree.ArrayAccessTree;
 import com.sun.source.tree.AssignmentTree;
 import com.sun.source.tree.BlockTree;
@@ -44,11 +45,12 @@ final class LoggedCopy extends Copy {
     private MethodTree method;
     private int names;
 
-    LoggedCopy(Attribution attribution, Library library, Set<Element> classes, String text, Predicate<MethodTree> atomic) {
+    LoggedCopy(Attribution attribution, Library library, Set<Element> classes, String text, Predicate<MethodTree> atomic,
+            Set<Place> singles) {
         super(attribution, text);
         this.classes = classes;
         this.atomic = atomic;
-        calls = new LoggedCalls(this, library, classes);
+        calls = new LoggedCalls(this, library, classes, singles);
     }
 
     @Override
