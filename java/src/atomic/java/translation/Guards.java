@@ -41,6 +41,11 @@ public final class Guards {
         return program.attribution().element(tree);
     }
 
+    /** What stands around a tree. */
+    Tree parent(Tree tree) {
+        return program.attribution().parent(tree);
+    }
+
     /** Whether the annotations of some field name a guard. */
     public boolean areNamed() {
         return program.classes().stream().flatMap(each -> each.symbol().getEnclosedElements().stream())
