@@ -9,9 +9,10 @@ package atomic.java.library;
  * @param fills whether it writes into the objects among its arguments
  * @param keeps whether it keeps what it is given, so that others may reach it from then on
  * @param elsewhere whether the functions that it is given run in another thread, which is told
+ * @param points whether it only points at the first thing that it is given, so that nobody gets that from it
  * @param makes the class of the new object that it gives, or null
  */
-public record Choice(Kind kind, boolean calls, boolean once, boolean fills, boolean keeps, boolean elsewhere, String makes) {
+public record Choice(Kind kind, boolean calls, boolean once, boolean fills, boolean keeps, boolean elsewhere, boolean points, String makes) {
 
     /** The steps of a call. */
     public enum Kind {
@@ -46,13 +47,13 @@ public record Choice(Kind kind, boolean calls, boolean once, boolean fills, bool
     }
 
     /** A method that no row speaks of. */
-    public static final Choice UNKNOWN = new Choice(Kind.UNKNOWN, false, false, false, true, false, null);
+    public static final Choice UNKNOWN = new Choice(Kind.UNKNOWN, false, false, false, true, false, false, null);
 
     /** What gives a part of a record. */
-    public static final Choice ACCESSOR = new Choice(Kind.PURE, false, false, false, false, false, null);
+    public static final Choice ACCESSOR = new Choice(Kind.PURE, false, false, false, false, false, false, null);
 
     /** The making of an object of a class that no row speaks of, which keeps what it is made of and does nothing else. */
-    static final Choice MADE = new Choice(Kind.PURE, false, false, false, true, false, null);
+    static final Choice MADE = new Choice(Kind.PURE, false, false, false, true, false, false, null);
 
     /** The choice that a word of the table spells: a kind, and flags behind plus signs. */
     static Choice of(String word) {
@@ -62,6 +63,7 @@ public record Choice(Kind kind, boolean calls, boolean once, boolean fills, bool
         boolean fills = false;
         boolean keeps = false;
         boolean elsewhere = false;
+        boolean points = false;
         String makes = null;
         for (int k = 1; k < words.length; k++) {
             switch (words[k]) {
@@ -70,6 +72,7 @@ public record Choice(Kind kind, boolean calls, boolean once, boolean fills, bool
                 case "fills" -> fills = true;
                 case "keeps" -> keeps = true;
                 case "elsewhere" -> elsewhere = true;
+                case "points" -> points = true;
                 default -> {
                     if (!words[k].startsWith("makes=")) {
                         throw new IllegalArgumentException(words[k]);
@@ -79,6 +82,6 @@ public record Choice(Kind kind, boolean calls, boolean once, boolean fills, bool
             }
         }
         return new Choice(Kind.valueOf(words[0].toUpperCase(java.util.Locale.ROOT)), calls || once, once, fills, keeps,
-            elsewhere, makes);
+            elsewhere, points, makes);
     }
 }

@@ -126,6 +126,8 @@ public final class Escape {
         Tree parent = attribution.parent(use);
         if (parent instanceof MemberSelectTree select) {
             return asReceiver(select);
+        } else if (new Pointers(program, uses).isPointed(use)) {
+            return NEVER;
         } else if (parent instanceof MethodInvocationTree call) {
             return asArgument(call, use);
         } else if (parent instanceof NewClassTree made) {
@@ -246,10 +248,8 @@ public final class Escape {
             return attribution.start(call);
         }
         boolean copies = symbol.getSimpleName().toString().endsWith("All") && choice.kind() != Choice.Kind.UNKNOWN;
-        if (copies) {
-            return showsEntries(use) ? attribution.start(call) : NEVER;
-        } else if (texts) {
-            return NEVER;
+        if (copies || texts) {
+            return copies && showsEntries(use) ? attribution.start(call) : NEVER;
         }
         long copied = showsEntries(use) && !results.isValue(call) ? from(call) : NEVER;
         return Math.min(copied, switch (choice.kind()) {
