@@ -194,7 +194,7 @@ public final class Waiting {
         Part part(Part part, State state) {
             if (part instanceof Part.Wait wait) {
                 return refuse(wait, "it stands in no loop that only looks");
-            } else if (part instanceof Part.Region region) {
+            } else if (part instanceof Part.Region region && region.mode() != Part.Mode.NONE) {
                 State inner = state.within(region.lock());
                 Part body = part(region.body(), inner);
                 state.touched = true;
