@@ -7,6 +7,7 @@ import atomic.java.program.Touch;
 import atomic.java.skeleton.Field;
 import atomic.java.skeleton.Method;
 import atomic.java.skeleton.Part;
+import atomic.java.skeleton.Path;
 import atomic.java.skeleton.Place;
 import atomic.java.skeleton.Shape;
 import java.util.ArrayList;
@@ -54,6 +55,7 @@ final class Course {
     private final Map<Method, Integer> entered = new HashMap<>();
     private final Map<Integer, Integer> branches = new HashMap<>();
     private final Program program;
+    private Owners owners;
     private boolean dark;
     private int numbers;
     private int inOthers;
@@ -66,7 +68,8 @@ final class Course {
         touches = program.touches();
         endless = program.endless();
         library = program.helpers();
-        method.required().forEach(each -> held.add(new Hold(numbers++, each, Part.Mode.EXCLUSIVE)));
+        owners = Owners.of(method);
+        method.required().forEach(each -> held.add(new Hold(numbers++, each, Part.Mode.EXCLUSIVE, owners.of(each))));
         taken.addAll(held);
         part(method.body(), 0);
     }
@@ -152,12 +155,13 @@ final class Course {
             Touch.Kind kind = access.write() ? Touch.Kind.CHANGE : Touch.Kind.LOOK;
             boolean known = touch != null && touch.kind().writes() == access.write();
             if (!lacksGuard(access)) {
-                event(access.field(), known ? touch : new Touch(access.field(), kind, ""));
+                Touch made = known ? touch : new Touch(access.field(), kind, "");
+                event(access.field(), made, owners.of(access.receiver()));
             }
         } else if (part instanceof Part.Call call) {
             call(call, depth);
         } else if (part instanceof Part.Region region && region.mode() != Part.Mode.NONE) {
-            Hold hold = new Hold(numbers++, region.lock(), region.mode());
+            Hold hold = new Hold(numbers++, region.lock(), region.mode(), owners.of(region.lock()));
             taken.add(hold);
             held.add(hold);
             if (inOthers == 0) {
@@ -167,7 +171,7 @@ final class Course {
             held.remove(hold);
             own.remove(hold);
         } else if (part instanceof Part.Either either) {
-            branch(List.of(either.left(), either.right()), depth);
+            branch(List.of(() -> part(either.left(), depth), () -> part(either.right(), depth)));
         } else if (part instanceof Part.Repeat repeat) {
             part(repeat.body(), depth);
             if (!endless.contains(repeat.place())) {
@@ -185,8 +189,8 @@ final class Course {
             && held.stream().noneMatch(each -> each.mayGuard(access.field()));
     }
 
-    private void event(Object thing, Touch touch) {
-        Event made = new Event(thing, touch.kind(), touch.asked(), List.copyOf(held), Map.copyOf(branches));
+    private void event(Object thing, Touch touch, Path.Root owner) {
+        Event made = new Event(thing, touch.kind(), touch.asked(), owner, List.copyOf(held), Map.copyOf(branches));
         events.add(made);
         byThing.computeIfAbsent(thing, key -> new ArrayList<>()).add(made);
         if (made.compares() || made.kind() == Touch.Kind.RETRY || made.draws()) {
@@ -201,14 +205,14 @@ final class Course {
             if (touch != null) {
                 // What is several steps is two events, unless it changes one thing at one moment.
                 List<Part> steps = steps(call.target().body());
-                (touch.kind().changesOnce() ? steps.subList(0, 1) : steps).forEach(each -> event(touch.object(), touch));
+                (touch.kind().changesOnce() ? steps.subList(0, 1) : steps).forEach(each -> event(touch.object(), touch, null));
             }
         } else if (depth < DEEPEST) {
             Integer before = entered.putIfAbsent(call.target(), held.size());
             dark = dark || before != null && held.size() > before;
             boolean other = others.contains(call.target());
             inOthers += other ? 1 : 0;
-            bodies(callees.of(call.target()), depth + 1);
+            bodies(call, depth + 1);
             inOthers -= other ? 1 : 0;
             if (before == null) {
                 entered.remove(call.target());
@@ -216,12 +220,20 @@ final class Course {
         }
     }
 
-    private void bodies(List<Method> all, int depth) {
+    private void bodies(Part.Call call, int depth) {
+        List<Method> all = callees.of(call.target());
         if (all.size() == 1) {
-            part(all.get(0).body(), depth);
+            body(call, all.get(0), depth);
         } else {
-            branch(all.stream().map(Method::body).toList(), depth);
+            branch(all.stream().<Runnable>map(each -> () -> body(call, each, depth)).toList());
         }
+    }
+
+    private void body(Part.Call call, Method callee, int depth) {
+        Owners before = owners;
+        owners = before.within(call, callee);
+        part(callee.body(), depth);
+        owners = before;
     }
 
     /** A branch follows behind what was looked at in a region. */
@@ -236,12 +248,12 @@ final class Course {
         return body instanceof Part.Sequence ? body.parts() : List.of(body);
     }
 
-    private void branch(List<Part> sides, int depth) {
+    private void branch(List<Runnable> sides) {
         own.forEach(this::ask);
         int number = numbers++;
         for (int side = 0; side < sides.size(); side++) {
             branches.put(number, side);
-            part(sides.get(side), depth);
+            sides.get(side).run();
         }
         branches.remove(number);
     }

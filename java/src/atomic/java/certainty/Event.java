@@ -16,13 +16,27 @@ import javax.lang.model.type.DeclaredType;
  * @param thing the field, or what stands for the object: two events touch the same where this is equal
  * @param kind what is done
  * @param asked what a look-up asks for, as it is written
+ * @param owner whose field it is: {@code this} or a parameter of the method; null where that isn't known
  * @param held the locks that are held meanwhile, the outermost first
  * @param branches the branches in which it stands: of each the side
  */
-record Event(Object thing, Touch.Kind kind, String asked, List<Hold> held, Map<Integer, Integer> branches) {
+record Event(Object thing, Touch.Kind kind, String asked, Path.Root owner, List<Hold> held, Map<Integer, Integer> branches) {
 
-    /** A lock that is held from its taking on, which {@code number} tells; without a path it may be any lock. */
-    record Hold(int number, Path lock, Part.Mode mode) {
+    /**
+     * A lock that is held from its taking on, which {@code number} tells; without a path it may be any lock. Where it is the one of
+     * {@code this} or of a parameter, that is its owner.
+     */
+    record Hold(int number, Path lock, Part.Mode mode, Path.Root owner) {
+
+        /** The same where the other method is called on the object of a parameter, which is another one than all that have names. */
+        boolean keepsOut(Hold other, Path.Root called) {
+            boolean apart = owner != null && !owner.equals(called) && other.isOfThis();
+            return !apart && keepsOut(other);
+        }
+
+        private boolean isOfThis() {
+            return owner != null && owner.kind() == Path.Kind.THIS;
+        }
 
         /** Whether nobody can take the other lock meanwhile: it may be the same one, and not both are readers. */
         boolean keepsOut(Hold other) {
@@ -62,6 +76,16 @@ record Event(Object thing, Touch.Kind kind, String asked, List<Hold> held, Map<I
 
     boolean isSame(Event other) {
         return thing.equals(other.thing);
+    }
+
+    /** Whether it touches the object on which the method is called. */
+    boolean isOfThis() {
+        return owner != null && owner.kind() == Path.Kind.THIS;
+    }
+
+    /** The parameter whose object both touch; null where there is none. */
+    Path.Root parameter(Event other) {
+        return owner != null && owner.kind() == Path.Kind.PARAMETER && owner.equals(other.owner) ? owner : null;
     }
 
     /** Whether it is a look-up of one thing among others. */

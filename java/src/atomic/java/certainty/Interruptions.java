@@ -5,6 +5,7 @@ import atomic.java.program.Program;
 import atomic.java.program.Touch;
 import atomic.java.skeleton.Field;
 import atomic.java.skeleton.Method;
+import atomic.java.skeleton.Path;
 import java.util.ArrayList;
 import java.util.Collection;
 import java.util.HashMap;
@@ -12,6 +13,7 @@ import java.util.LinkedHashSet;
 import java.util.List;
 import java.util.Map;
 import java.util.Set;
+import java.util.function.BiPredicate;
 import java.util.function.Predicate;
 
 /**
@@ -65,25 +67,26 @@ public final class Interruptions {
 
     /** What is asked of another method for two events: whether it has a conflict with both. Many pairs ask the same. */
     private record Question(Course course, Pair things, boolean changesOne, boolean changesTwo, boolean found, boolean twice,
-            boolean apart, boolean publishes, boolean adds, boolean fills, boolean walks) {
+            boolean apart, boolean publishes, boolean adds, boolean fills, boolean walks, boolean ofThis) {
 
-        static Question of(Course course, Event one, Event two) {
+        /** Where {@code ofThis} is set, the other method is called on the object of the events, and no field of another one counts. */
+        static Question of(Course course, Event one, Event two, boolean ofThis) {
             return new Question(course, new Pair(one.thing(), two.thing()), one.writes(), two.writes(),
                 one.finds() && !one.isSame(two), one.finds() && two.finds(), !one.asked().equals(two.asked()),
                 one.isPlain() && !two.isPlain() && one.writes(), one.kind() == Touch.Kind.ADD,
                 one.kind() == Touch.Kind.ADD && one.leadsTo(two),
-                one.walksTo(two) && (!one.writes() || one.kind().tries()));
+                one.walksTo(two) && (!one.writes() || one.kind().tries()), ofThis);
         }
 
         /** Whether an event has a conflict with the first one. */
         boolean isFirst(Event each) {
-            return changesOne ? !walks && !(fills && each.finds()) && (course.looks(each) || adds && each.takes())
-                : each.writes() && !(found && each.kind().adds()) && !(walks && each.kind().tries());
+            return (!ofThis || each.isOfThis()) && (changesOne ? !walks && !(fills && each.finds()) && (course.looks(each) || adds && each.takes())
+                : each.writes() && !(found && each.kind().adds()) && !(walks && each.kind().tries()));
         }
 
         /** Whether an event has a conflict with the second one. */
         boolean isSecond(Event each) {
-            return changesTwo ? !changesOne || course.looks(each) : each.writes();
+            return (!ofThis || each.isOfThis()) && (changesTwo ? !changesOne || course.looks(each) : each.writes());
         }
 
         /** Whether one change stands against two look-ups, which tell the same in front of it and behind it. */
@@ -105,26 +108,31 @@ public final class Interruptions {
 
     /**
      * What may run in the middle of this method so that no order of whole calls gives the same: a method, or one and then
-     * another. There is none where none is seen. Two events of one thing come first.
+     * another. There is none where none is seen. Two events of one thing come first, and those of a parameter's object come
+     * once more: of a long method the others may have taken all looks.
      */
     public List<Method> witnesses(Method method) {
         Course course = course(method);
         if (course.isDark() || silent.test(method) && course.addsOne()) {
             return List.of();
         }
-        int most = Math.min(MOST_LOOKS + LOOKS_OF_EACH * others.size(), looks + MOST_LOOKS_OF_ONE);
-        List<Method> found = witnesses(course, true, most);
-        return found.isEmpty() ? witnesses(course, false, most) : found;
+        int begun = looks;
+        List<Method> found = witnesses(course, Event::isSame, begun + MOST_LOOKS_OF_ONE);
+        if (found.isEmpty()) {
+            found = witnesses(course, (one, two) -> !one.isSame(two), begun + MOST_LOOKS_OF_ONE);
+        }
+        return found.isEmpty() ? witnesses(course, (one, two) -> one.parameter(two) != null, looks + MOST_LOOKS_OF_ONE) : found;
     }
 
-    /** What tells apart two events that touch the same, or that don't. */
-    private List<Method> witnesses(Course course, boolean same, int most) {
+    /** What tells apart two events of such a pair. */
+    private List<Method> witnesses(Course course, BiPredicate<Event, Event> pairs, int mostOfOne) {
+        int most = Math.min(MOST_LOOKS + LOOKS_OF_EACH * others.size(), mostOfOne);
         List<Event> events = course.events();
         for (int second = 1; second < events.size(); second++) {
             for (int first = 0; first < second && looks < most; first++) {
                 Event one = events.get(first);
                 Event two = events.get(second);
-                List<Method> found = one.isSame(two) == same && one.meets(two) && counts(course, first, second)
+                List<Method> found = pairs.test(one, two) && one.meets(two) && counts(course, first, second)
                     ? reason(course, one, two) : List.of();
                 if (!found.isEmpty()) {
                     return found;
@@ -204,14 +212,21 @@ public final class Interruptions {
         return around.stream().anyMatch(each -> course.taken().stream().anyMatch(each::keepsOut));
     }
 
+    /** The same where the other method is called on the object of a parameter, and other names are those of other objects. */
+    private static boolean isKeptOut(Course course, List<Event.Hold> around, Path.Root called) {
+        return around.stream().anyMatch(each -> course.taken().stream().anyMatch(hold -> each.keepsOut(hold, called)));
+    }
+
     private Method between(Event one, Event two) {
         List<Event.Hold> around = one.around(two);
         for (Method other : touching(one, two)) {
             looks++;
             Course course = course(other);
             boolean whole = !isKeptOut(course, around);
-            if (!course.isDark() && (whole ? told.computeIfAbsent(Question.of(course, one, two), Interruptions::tells)
-                    : changesOutside(course, one, two, around))) {
+            boolean ofThis = !whole && one.parameter(two) != null && !isKeptOut(course, around, one.owner());
+            boolean tells = (whole || ofThis) && !course.isDark()
+                && told.computeIfAbsent(Question.of(course, one, two, ofThis), Interruptions::tells);
+            if (tells || !whole && !course.isDark() && changesOutside(course, one, two, around)) {
                 return other;
             }
         }
