@@ -54,6 +54,10 @@ final class Course {
     /** The methods whose bodies are being gone through, and how many locks were held where each was called. */
     private final Map<Method, Integer> entered = new HashMap<>();
     private final Map<Integer, Integer> branches = new HashMap<>();
+    /** What is held, and the branches, as the next event has them; null where it differs from those of the last one. */
+    private List<Hold> heldNow;
+    private Map<Integer, Integer> branchesNow;
+    private final Method method;
     private final Program program;
     private Owners owners;
     private boolean dark;
@@ -62,6 +66,7 @@ final class Course {
     private int parts;
 
     Course(Method method, Callees callees, Set<Method> others, Program program) {
+        this.method = method;
         this.callees = callees;
         this.others = others;
         this.program = program;
@@ -74,6 +79,11 @@ final class Course {
         part(method.body(), 0);
     }
 
+    /** The method that it is of. */
+    Method method() {
+        return method;
+    }
+
     /** The events in their order. */
     List<Event> events() {
         return events;
@@ -84,9 +94,21 @@ final class Course {
         return dark;
     }
 
-    /** All locks that some run takes. */
-    Set<Hold> taken() {
-        return taken;
+    /** Whether some run takes a lock that isn't to be had while these are held. */
+    boolean isKeptOut(List<Hold> others) {
+        for (Hold other : others) {
+            for (Hold each : taken) {
+                if (other.keepsOut(each)) {
+                    return true;
+                }
+            }
+        }
+        return false;
+    }
+
+    /** The same where the method is called on the object of a parameter, and other names are those of other objects. */
+    boolean isKeptOut(List<Hold> others, Path.Root called) {
+        return others.stream().anyMatch(other -> taken.stream().anyMatch(each -> other.keepsOut(each, called)));
     }
 
     /** Whether there is one change, which adds what isn't there or sets a flag, and else nothing but looks at the same. */
@@ -164,11 +186,13 @@ final class Course {
             Hold hold = new Hold(numbers++, region.lock(), region.mode(), owners.of(region.lock()));
             taken.add(hold);
             held.add(hold);
+            heldNow = null;
             if (inOthers == 0) {
                 own.add(hold);
             }
             part(region.body(), depth);
             held.remove(hold);
+            heldNow = null;
             own.remove(hold);
         } else if (part instanceof Part.Either either) {
             branch(List.of(() -> part(either.left(), depth), () -> part(either.right(), depth)));
@@ -190,7 +214,9 @@ final class Course {
     }
 
     private void event(Object thing, Touch touch, Path.Root owner) {
-        Event made = new Event(thing, touch.kind(), touch.asked(), owner, List.copyOf(held), Map.copyOf(branches));
+        heldNow = heldNow == null ? List.copyOf(held) : heldNow;
+        branchesNow = branchesNow == null ? Map.copyOf(branches) : branchesNow;
+        Event made = new Event(thing, touch.kind(), touch.asked(), owner, heldNow, branchesNow);
         events.add(made);
         byThing.computeIfAbsent(thing, key -> new ArrayList<>()).add(made);
         if (made.compares() || made.kind() == Touch.Kind.RETRY || made.draws()) {
@@ -253,8 +279,10 @@ final class Course {
         int number = numbers++;
         for (int side = 0; side < sides.size(); side++) {
             branches.put(number, side);
+            branchesNow = null;
             sides.get(side).run();
         }
         branches.remove(number);
+        branchesNow = null;
     }
 }

@@ -135,8 +135,15 @@ record Event(Object thing, Touch.Kind kind, String asked, Path.Root owner, List<
 
     /** Whether one run of a method may do both. */
     boolean meets(Event other) {
-        return branches.entrySet().stream().allMatch(each ->
-            other.branches.getOrDefault(each.getKey(), each.getValue()).equals(each.getValue()));
+        if (branches == other.branches) {
+            return true;
+        }
+        for (Map.Entry<Integer, Integer> each : branches.entrySet()) {
+            if (!other.branches.getOrDefault(each.getKey(), each.getValue()).equals(each.getValue())) {
+                return false;
+            }
+        }
+        return true;
     }
 
     /** The locks that are held at this event, at the other one, and all the time between the two. */

@@ -9,6 +9,7 @@ import atomic.java.skeleton.Path;
 import java.util.ArrayList;
 import java.util.Collection;
 import java.util.HashMap;
+import java.util.IdentityHashMap;
 import java.util.LinkedHashSet;
 import java.util.List;
 import java.util.Map;
@@ -57,35 +58,35 @@ public final class Interruptions {
     private final Set<Method> others;
     private final Predicate<Method> silent;
     private final Map<Method, Course> courses = new HashMap<>();
-    private final Map<Object, Set<Method>> byThing = new HashMap<>();
-    private final Map<Pair, List<Method>> byBoth = new HashMap<>();
-    private final Map<Question, Boolean> told = new HashMap<>();
+    private final Map<Object, Set<Course>> byThing = new HashMap<>();
+    private final Map<Pair, List<Course>> byBoth = new HashMap<>();
+    private final Map<Question, Map<Course, Boolean>> told = new HashMap<>();
     private int looks;
 
     /** Two things that a method touches. */
     private record Pair(Object one, Object two) { }
 
-    /** What is asked of another method for two events: whether it has a conflict with both. Many pairs ask the same. */
-    private record Question(Course course, Pair things, boolean changesOne, boolean changesTwo, boolean found, boolean twice,
+    /** What is asked of other methods for two events: whether they have a conflict with both. Many pairs ask the same. */
+    private record Question(Pair things, boolean changesOne, boolean changesTwo, boolean found, boolean twice,
             boolean apart, boolean publishes, boolean adds, boolean fills, boolean walks, boolean ofThis) {
 
         /** Where {@code ofThis} is set, the other method is called on the object of the events, and no field of another one counts. */
-        static Question of(Course course, Event one, Event two, boolean ofThis) {
-            return new Question(course, new Pair(one.thing(), two.thing()), one.writes(), two.writes(),
+        static Question of(Event one, Event two, boolean ofThis) {
+            return new Question(new Pair(one.thing(), two.thing()), one.writes(), two.writes(),
                 one.finds() && !one.isSame(two), one.finds() && two.finds(), !one.asked().equals(two.asked()),
                 one.isPlain() && !two.isPlain() && one.writes(), one.kind() == Touch.Kind.ADD,
                 one.kind() == Touch.Kind.ADD && one.leadsTo(two),
                 one.walksTo(two) && (!one.writes() || one.kind().tries()), ofThis);
         }
 
-        /** Whether an event has a conflict with the first one. */
-        boolean isFirst(Event each) {
+        /** Whether an event of a course has a conflict with the first one. */
+        boolean isFirst(Course course, Event each) {
             return (!ofThis || each.isOfThis()) && (changesOne ? !walks && !(fills && each.finds()) && (course.looks(each) || adds && each.takes())
                 : each.writes() && !(found && each.kind().adds()) && !(walks && each.kind().tries()));
         }
 
-        /** Whether an event has a conflict with the second one. */
-        boolean isSecond(Event each) {
+        /** Whether an event of a course has a conflict with the second one. */
+        boolean isSecond(Course course, Event each) {
             return (!ofThis || each.isOfThis()) && (changesTwo ? !changesOne || course.looks(each) : each.writes());
         }
 
@@ -166,20 +167,20 @@ public final class Interruptions {
         return needsBoth(course, one, two) ? oneByOne(one, two) : List.of();
     }
 
-    /** The other methods that touch both. */
-    private List<Method> touching(Event one, Event two) {
+    /** What the other methods do that touch both. */
+    private List<Course> touching(Event one, Event two) {
         if (byBoth.size() > MOST_PAIRS) {
             byBoth.clear();
         }
         return byBoth.computeIfAbsent(new Pair(one.thing(), two.thing()), key -> {
-            Set<Method> both = touching(two);
+            Set<Course> both = touching(two);
             return touching(one).stream().filter(both::contains).toList();
         });
     }
 
-    private Set<Method> touching(Event event) {
+    private Set<Course> touching(Event event) {
         if (byThing.isEmpty()) {
-            others.forEach(other -> course(other).events().forEach(each ->
+            others.stream().map(this::course).forEach(other -> other.events().forEach(each ->
                 byThing.computeIfAbsent(each.thing(), key -> new LinkedHashSet<>()).add(other)));
         }
         return byThing.getOrDefault(event.thing(), Set.of());
@@ -200,37 +201,44 @@ public final class Interruptions {
     }
 
     private Method changing(Event event, List<Event.Hold> around) {
-        return touching(event).stream().filter(each -> {
+        return touching(event).stream().filter(course -> {
             looks++;
-            Course course = course(each);
-            return !course.isDark() && !isKeptOut(course, around)
+            return !course.isDark() && !course.isKeptOut(around)
                 && course.events().stream().anyMatch(other -> other.writes() && other.isSame(event));
-        }).findFirst().orElse(null);
-    }
-
-    private static boolean isKeptOut(Course course, List<Event.Hold> around) {
-        return around.stream().anyMatch(each -> course.taken().stream().anyMatch(each::keepsOut));
-    }
-
-    /** The same where the other method is called on the object of a parameter, and other names are those of other objects. */
-    private static boolean isKeptOut(Course course, List<Event.Hold> around, Path.Root called) {
-        return around.stream().anyMatch(each -> course.taken().stream().anyMatch(hold -> each.keepsOut(hold, called)));
+        }).findFirst().map(Course::method).orElse(null);
     }
 
     private Method between(Event one, Event two) {
         List<Event.Hold> around = one.around(two);
-        for (Method other : touching(one, two)) {
+        List<Course> all = touching(one, two);
+        if (all.isEmpty()) {
+            return null;
+        }
+        Question asked = Question.of(one, two, false);
+        Map<Course, Boolean> answers = answers(asked);
+        for (Course course : all) {
             looks++;
-            Course course = course(other);
-            boolean whole = !isKeptOut(course, around);
-            boolean ofThis = !whole && one.parameter(two) != null && !isKeptOut(course, around, one.owner());
-            boolean tells = (whole || ofThis) && !course.isDark()
-                && told.computeIfAbsent(Question.of(course, one, two, ofThis), Interruptions::tells);
-            if (tells || !whole && !course.isDark() && changesOutside(course, one, two, around)) {
-                return other;
+            if (!course.isDark() && (course.isKeptOut(around) ? tellsElsewhere(course, one, two, around)
+                    : answers.computeIfAbsent(course, key -> tells(key, asked)))) {
+                return course.method();
             }
         }
         return null;
+    }
+
+    /** Whether a method that is kept out between two events, where it is called on their object, has a conflict with both otherwise. */
+    private boolean tellsElsewhere(Course course, Event one, Event two, List<Event.Hold> around) {
+        if (one.parameter(two) != null && !course.isKeptOut(around, one.owner())) {
+            Question asked = Question.of(one, two, true);
+            if (answers(asked).computeIfAbsent(course, key -> tells(key, asked))) {
+                return true;
+            }
+        }
+        return changesOutside(course, one, two, around);
+    }
+
+    private Map<Course, Boolean> answers(Question asked) {
+        return told.computeIfAbsent(asked, key -> new IdentityHashMap<>());
     }
 
     /**
@@ -245,11 +253,10 @@ public final class Interruptions {
     }
 
     /** Whether a method that does these events has a conflict with both. */
-    private static boolean tells(Question asked) {
-        Course course = asked.course();
-        List<Event> firsts = course.events(asked.things().one()).stream().filter(asked::isFirst).toList();
+    private static boolean tells(Course course, Question asked) {
+        List<Event> firsts = course.events(asked.things().one()).stream().filter(each -> asked.isFirst(course, each)).toList();
         List<Event> seconds = firsts.isEmpty() ? List.of()
-            : course.events(asked.things().two()).stream().filter(asked::isSecond).toList();
+            : course.events(asked.things().two()).stream().filter(each -> asked.isSecond(course, each)).toList();
         return firsts.stream().anyMatch(each -> seconds.stream().anyMatch(other -> each.meets(other)
             && !asked.isFoundTwice(each, other) && !(asked.publishes() && isPublished(each, other))));
     }

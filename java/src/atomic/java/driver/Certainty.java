@@ -7,8 +7,6 @@ import java.util.LinkedHashMap;
 import java.util.List;
 import java.util.Map;
 import java.util.Set;
-import java.util.regex.Matcher;
-import java.util.regex.Pattern;
 import java.util.stream.Collectors;
 
 /**
@@ -25,36 +23,44 @@ final class Certainty {
     /** What stands there where nobody is seen who would tell the difference. */
     static final String UNSEEN = ": note: this may be a wrong alarm: no method here is seen that could tell that another"
         + " thread came in between";
-    private static final Pattern PLACED = Pattern.compile("(.*?):(\\d+):(\\d+): error: .*");
     private static final String FOUND = ", found ";
     private static final String UNGUARDED = ", found error";
 
     private final List<String> lines;
     private final Map<String, List<String>> certain;
-    private final Map<String, String> witnesses;
 
-    /** The errors of both kinds; {@code witnesses} has for a method's place the line about who may run in between. */
-    Certainty(List<String> lines, List<String> certainLines, Map<String, String> witnesses) {
+    /** The errors of both kinds. */
+    Certainty(List<String> lines, List<String> certainLines) {
         this.lines = lines;
-        this.witnesses = witnesses;
         certain = blocks(certainLines);
     }
 
-    /** All lines: each error, and behind it its explanation. */
-    List<String> lines() {
+    /** The places of the errors that are certain only where somebody can tell the interruption. */
+    Set<String> open() {
+        return blocks(lines).entrySet().stream()
+            .filter(each -> certain.containsKey(each.getKey()) && isOpen(certain.get(each.getKey()), each.getValue()))
+            .map(each -> place(each.getKey())).collect(Collectors.toSet());
+    }
+
+    private static boolean isOpen(List<String> sure, List<String> block) {
+        return !sure.get(0).endsWith(UNGUARDED) || !block.get(0).endsWith(UNGUARDED);
+    }
+
+    /** All lines: each error, and behind it its explanation; {@code witnesses} has for a place the line about who may run in between. */
+    List<String> lines(Map<String, String> witnesses) {
         List<String> all = new ArrayList<>();
         blocks(lines).forEach((key, block) -> {
             List<String> sure = certain.get(key);
-            if (!key.contains(ERROR)) {
+            String place = place(key);
+            if (place.isEmpty()) {
                 all.addAll(block);
                 return;
             }
             all.add(block.get(0));
             all.addAll(sure != null ? sure.subList(1, sure.size()) : block.subList(1, block.size()));
-            String place = key.substring(0, key.indexOf(ERROR));
             if (sure == null) {
                 all.add(place + DOUBT);
-            } else if (!sure.get(0).endsWith(UNGUARDED) || !block.get(0).endsWith(UNGUARDED)) {
+            } else if (isOpen(sure, block)) {
                 all.add(witnesses.getOrDefault(place, place + UNSEEN));
             }
         });
@@ -69,21 +75,48 @@ final class Certainty {
 
     /** The files in which some error may be a wrong alarm for what is approximated. */
     static Set<String> doubted(List<String> lines) {
-        return lines.stream().filter(each -> each.endsWith(DOUBT)).map(each -> PLACED.matcher(
-            each.replace(DOUBT, ERROR))).filter(Matcher::matches).map(each -> each.group(1)).collect(Collectors.toSet());
+        return lines.stream().filter(each -> each.endsWith(DOUBT))
+            .map(each -> placeOf(each.replace(DOUBT, ERROR)).file()).collect(Collectors.toSet());
     }
 
     /** The errors in the order of their places, each once and with the lines behind it. */
     static List<String> inOrder(List<String> lines) {
-        List<Map.Entry<String, List<String>>> all = new ArrayList<>(blocks(lines).entrySet());
-        all.sort(Comparator.comparing(each -> place(each.getKey())));
-        return all.stream().flatMap(each -> each.getValue().stream()).toList();
+        record Placed(Place place, List<String> block) { }
+        return blocks(lines).entrySet().stream().map(each -> new Placed(placeOf(each.getKey()), each.getValue()))
+            .sorted(Comparator.comparing(Placed::place)).flatMap(each -> each.block().stream()).toList();
     }
 
-    private static Place place(String error) {
-        Matcher parts = PLACED.matcher(error);
-        return parts.matches() ? new Place(parts.group(1), Integer.parseInt(parts.group(2)),
-            Integer.parseInt(parts.group(3))) : new Place("", 0, 0);
+    /** Where an error is told; in front of all others where none is. */
+    private static Place placeOf(String error) {
+        String written = place(error);
+        int column = written.lastIndexOf(':');
+        int line = written.lastIndexOf(':', column - 1);
+        return written.isEmpty() ? new Place("", 0, 0) : new Place(written.substring(0, line),
+            Integer.parseInt(written.substring(line + 1, column)), Integer.parseInt(written.substring(column + 1)));
+    }
+
+    /** The place as an error has it in front; empty where the line is none. The name of a file may hold the same words. */
+    static String place(String line) {
+        int end = line.indexOf(ERROR);
+        while (end >= 0 && !endsWithNumbers(line, end)) {
+            end = line.indexOf(ERROR, end + 1);
+        }
+        return end < 0 ? "" : line.substring(0, end);
+    }
+
+    /** Whether two numbers stand in front of an offset, each behind a colon. */
+    private static boolean endsWithNumbers(String line, int end) {
+        int at = end;
+        for (int k = 0; k < 2; k++) {
+            int before = at;
+            while (at > 0 && line.charAt(at - 1) >= '0' && line.charAt(at - 1) <= '9') {
+                at--;
+            }
+            if (at == before || at == 0 || line.charAt(--at) != ':') {
+                return false;
+            }
+        }
+        return true;
     }
 
     /** Whether an error is told as one that may be a wrong alarm. */
@@ -96,7 +129,7 @@ final class Certainty {
         Map<String, List<String>> blocks = new LinkedHashMap<>();
         List<String> current = new ArrayList<>();
         for (String line : lines) {
-            boolean head = line.contains(ERROR);
+            boolean head = !place(line).isEmpty();
             if (head || blocks.isEmpty()) {
                 current = new ArrayList<>();
                 String key = head && line.contains(FOUND) ? line.substring(0, line.lastIndexOf(FOUND)) : line;

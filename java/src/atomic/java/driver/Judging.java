@@ -103,6 +103,12 @@ final class Judging {
         ask(roots(), true);
     }
 
+    /** Judges all methods. */
+    void askAndFinish() {
+        ask();
+        finish();
+    }
+
     /** Begins to judge the methods at which these errors were told, and will tell of errors alone. */
     void ask(List<String> errors) {
         Set<String> places = places(errors);
@@ -127,9 +133,8 @@ final class Judging {
         asked.clear();
     }
 
-    /** For the places of methods with an error of which somebody can tell that another thread came in between: what ran there. */
-    Map<String, String> witnesses(List<String> errors) {
-        Set<String> places = places(errors);
+    /** Of these places of methods with an error, those where somebody can tell that another thread came in between: what ran there. */
+    Map<String, String> witnesses(Set<String> places) {
         Interruptions interruptions = new Interruptions(program, methods.callable(), methods::givesNothing);
         Map<String, String> witnesses = new HashMap<>();
         for (Method each : roots()) {
@@ -148,8 +153,7 @@ final class Judging {
     }
 
     private static Set<String> places(List<String> errors) {
-        return errors.stream().filter(line -> line.contains(Certainty.ERROR))
-            .map(line -> line.substring(0, line.indexOf(Certainty.ERROR))).collect(Collectors.toSet());
+        return errors.stream().map(Certainty::place).filter(place -> !place.isEmpty()).collect(Collectors.toSet());
     }
 
     private List<Method> roots() {

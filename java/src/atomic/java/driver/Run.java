@@ -30,8 +30,10 @@ import java.io.IOException;
 import java.nio.file.Files;
 import java.nio.file.Path;
 import java.util.ArrayList;
+import java.util.HashMap;
 import java.util.List;
 import java.util.Map;
+import java.util.Set;
 
 /** One run of the program: from the words of the command line to the answer. */
 public final class Run {
@@ -63,11 +65,12 @@ public final class Run {
 
     private int judge(Attribution attribution, Program program, Methods methods, Checker checker, StringBuilder answer) {
         boolean approximates = program.notes().approximates();
+        boolean many = approximates && program.methods().size() > MANY;
         Judging judging = new Judging(program, methods, checker);
-        Beside asking = new Beside(judging::ask, Main.STACK);
-        Judging certain = approximates && program.methods().size() > MANY ? certain(attribution, checker) : null;
+        Beside asking = new Beside(many ? judging::askAndFinish : judging::ask, Main.STACK);
+        Judging certain = many ? certain(attribution, checker) : null;
         asking.join();
-        if (certain == null && approximates && judging.isRefused()) {
+        if (approximates && !many && judging.isRefused()) {
             certain = certain(attribution, checker);
         }
         judging.finish();
@@ -111,9 +114,18 @@ public final class Run {
             certain.ask(judging.lines());
             certain.finish();
         }
-        Map<String, String> witnesses = judging.witnesses(judging.lines());
-        witnesses.keySet().retainAll(certain.witnesses(judging.lines()).keySet());
-        return new Certainty(judging.lines(), certain.lines(), witnesses).lines();
+        Certainty certainty = new Certainty(judging.lines(), certain.lines());
+        return certainty.lines(witnesses(judging, certain, certainty.open()));
+    }
+
+    /** Who can tell the interruption, in the whole and without what is approximated: the two share nothing that changes. */
+    private static Map<String, String> witnesses(Judging judging, Judging certain, Set<String> places) {
+        Map<String, String> witnesses = new HashMap<>();
+        Beside whole = new Beside(() -> witnesses.putAll(judging.witnesses(places)), Main.STACK);
+        Set<String> sure = certain == judging ? places : certain.witnesses(places).keySet();
+        whole.join();
+        witnesses.keySet().retainAll(sure);
+        return witnesses;
     }
 
     /** Without promises or guards little is judged: what would help is told, beside the answer. */

@@ -2,15 +2,12 @@ package atomic.java.places;
 
 import java.util.HashMap;
 import java.util.Map;
-import java.util.regex.Matcher;
-import java.util.regex.Pattern;
 
 /**
  * Short names in the place of a long skeleton's names, so that more of it fits into one text. Each is a letter, a digit and
  * what further letters and digits it takes, as no word of an answer is.
  */
 public final class Aliases {
-    private static final Pattern ALIAS = Pattern.compile("\\b[a-z][0-9][0-9a-z]*\\b");
     private static final int LETTERS = 26;
     private static final int DIGITS = 10;
 
@@ -33,7 +30,29 @@ public final class Aliases {
 
     /** A line of an answer with the names that its aliases stand for. */
     public String spelled(String line) {
-        return names.isEmpty() ? line : ALIAS.matcher(line).replaceAll(found ->
-            Matcher.quoteReplacement(names.getOrDefault(found.group(), found.group())));
+        StringBuilder spelled = new StringBuilder();
+        int done = 0;
+        int at = 0;
+        while (at < line.length()) {
+            int end = at;
+            while (end < line.length() && isOfWord(line.charAt(end))) {
+                end++;
+            }
+            String name = isAlias(line, at, end) ? names.get(line.substring(at, end)) : null;
+            if (name != null) {
+                spelled.append(line, done, at).append(name);
+                done = end;
+            }
+            at = Math.max(end, at + 1);
+        }
+        return done == 0 ? line : spelled.append(line, done, line.length()).toString();
+    }
+
+    private static boolean isAlias(String line, int from, int to) {
+        return to - from >= 2 && Character.isLowerCase(line.charAt(from)) && Character.isDigit(line.charAt(from + 1));
+    }
+
+    private static boolean isOfWord(char letter) {
+        return letter == '_' || Character.isLetterOrDigit(letter);
     }
 }

@@ -7,8 +7,8 @@ import java.util.regex.Pattern;
 
 /** Brings the lines of {@code atomic_why} back to the places and names of the Java sources. */
 public final class Answer {
-    private static final Pattern LINE = Pattern.compile("(\\d+):(\\d+): (error|note): (.*?)(?: \\[[a-z-]+\\])?");
-    private static final Pattern CHAIN = Pattern.compile("[A-Za-z_][A-Za-z0-9_]*(\\.[A-Za-z_][A-Za-z0-9_]*)*");
+    private static final Pattern LINE = Pattern.compile("(\\d+):(\\d+): (error|note): (.*)");
+    private static final Pattern RULE = Pattern.compile(" \\[[a-z-]+\\]");
     private static final Pattern HEAD = Pattern.compile("\\S+ is (const|mover|atomic|cmpd|error)|.* is declared .*");
 
     private final Text text;
@@ -30,8 +30,9 @@ public final class Answer {
                 continue;
             }
             Place place = text.place(Integer.parseInt(parts.group(1)), Integer.parseInt(parts.group(2)));
-            String written = place + ": " + parts.group(3) + ": " + java(parts.group(4));
-            if (HEAD.matcher(parts.group(4)).matches()) {
+            String words = withoutRule(parts.group(4));
+            String written = place + ": " + parts.group(3) + ": " + java(words);
+            if (HEAD.matcher(words).matches()) {
                 outside = place == null;
                 if (!outside) {
                     blocks.begin(written);
@@ -43,14 +44,48 @@ public final class Answer {
         return blocks.lines();
     }
 
+    /** A line without the name of the rule that may stand at its end. */
+    private static String withoutRule(String words) {
+        int end = words.endsWith("]") ? words.lastIndexOf(" [") : -1;
+        return end >= 0 && RULE.matcher(words.substring(end)).matches() ? words.substring(0, end) : words;
+    }
+
     /** A text with the names that Java has for what it speaks of. */
     String java(String told) {
-        Matcher chains = CHAIN.matcher(told);
         StringBuilder result = new StringBuilder();
-        while (chains.find()) {
-            chains.appendReplacement(result, Matcher.quoteReplacement(chain(chains.group())));
+        int at = 0;
+        while (at < told.length()) {
+            int end = behindChain(told, at);
+            if (end > at) {
+                result.append(chain(told.substring(at, end)));
+                at = end;
+            } else {
+                result.append(told.charAt(at++));
+            }
         }
-        return chains.appendTail(result).toString().replace("Library..", "");
+        return result.toString().replace("Library..", "");
+    }
+
+    /** Where the names end that begin here and that points connect; here where none does. */
+    private static int behindChain(String told, int from) {
+        int end = from;
+        int next = from;
+        while (next < told.length() && isLetter(told.charAt(next))) {
+            end = next + 1;
+            while (end < told.length() && (isLetter(told.charAt(end)) || isDigit(told.charAt(end)))) {
+                end++;
+            }
+            next = end < told.length() && told.charAt(end) == '.' ? end + 1 : told.length();
+        }
+        return end;
+    }
+
+    private static boolean isLetter(char letter) {
+        return letter == '_' || letter >= 'a' && letter <= 'z' || letter >= 'A' && letter <= 'Z';
+    }
+
+    private static boolean isDigit(char letter) {
+        return letter >= '0' && letter <= '9';
     }
 
     private String chain(String written) {

@@ -18,6 +18,7 @@ import java.util.Collection;
 import java.util.HashMap;
 import java.util.HashSet;
 import java.util.LinkedHashMap;
+import java.util.LinkedHashSet;
 import java.util.List;
 import java.util.Map;
 import java.util.Set;
@@ -97,12 +98,12 @@ final class Exits {
     }
 
     /** Whether an iterator looks at what others change, while it holds no lock. */
-    private boolean looks(JavaClass walker, Collection<Method> all) {
+    private boolean looks(JavaClass walker, Collection<Method> all, Map<Field, Set<Method>> changing) {
         Set<Field> looked = new HashSet<>();
         all.stream().filter(each -> each.owner() == walker.shape() && services.methods().origin(each) instanceof JavaMethod java
             && !java.isConstructor()).forEach(each -> looks(each.body(), walker, looked));
-        return all.stream().filter(each -> each.owner() != walker.shape()).anyMatch(each -> looked.stream().anyMatch(field ->
-            touches(each.body(), field, true)));
+        return looked.stream().anyMatch(field -> changing.getOrDefault(field, Set.of()).stream()
+            .anyMatch(each -> each.owner() != walker.shape()));
     }
 
     private static void looks(Part part, JavaClass walker, Set<Field> looked) {
@@ -115,28 +116,41 @@ final class Exits {
 
     /** Where all methods are written: what nobody changes doesn't matter. */
     void finish(Collection<Method> all) {
+        if (ways.isEmpty() && walkers.isEmpty()) {
+            return;
+        }
+        Map<Field, Set<Method>> touching = new HashMap<>();
+        Map<Field, Set<Method>> changing = new HashMap<>();
+        all.forEach(each -> touches(each.body(), each, touching, changing));
         ways.forEach((field, way) -> {
             Field contents = services.fields().contents(field).field();
-            if (all.stream().anyMatch(each -> touches(each.body(), contents, true))) {
+            if (changing.containsKey(contents)) {
                 services.fill(way, true);
-                places.get(field).forEach(each -> tell(field, each, all));
+                places.get(field).forEach(each -> tell(field, each, touching.get(contents)));
             }
         });
-        walkers.keySet().stream().filter(each -> looks(each, all)).forEach(each -> services.fill(walkers.get(each), true));
+        walkers.forEach((walker, way) -> {
+            if (looks(walker, all, changing)) {
+                services.fill(way, true);
+            }
+        });
     }
 
-    private void tell(VariableElement field, Tree exit, Collection<Method> all) {
-        Field contents = services.fields().contents(field).field();
-        all.stream().filter(each -> touches(each.body(), contents, false)).forEach(each ->
-            services.program().notes().tell(Notes.Kind.ASSUMED, services.methods().origin(each),
-                services.attribution().name(exit), "nobody touches what " + field.getSimpleName()
-                    + " holds by way of what gets out here"));
+    private void tell(VariableElement field, Tree exit, Set<Method> touching) {
+        touching.forEach(each -> services.program().notes().tell(Notes.Kind.ASSUMED, services.methods().origin(each),
+            services.attribution().name(exit), "nobody touches what " + field.getSimpleName()
+                + " holds by way of what gets out here"));
         services.hint(exit, "object of others: what " + field.getSimpleName() + " holds gets out here, so that others may touch"
             + " it without any lock");
     }
 
-    private static boolean touches(Part part, Field contents, boolean changes) {
-        return part instanceof Part.Access access && (access.write() || !changes) && access.field() == contents
-            || part.parts().stream().anyMatch(each -> touches(each, contents, changes));
+    private static void touches(Part part, Method method, Map<Field, Set<Method>> touching, Map<Field, Set<Method>> changing) {
+        if (part instanceof Part.Access access) {
+            touching.computeIfAbsent(access.field(), key -> new LinkedHashSet<>()).add(method);
+            if (access.write()) {
+                changing.computeIfAbsent(access.field(), key -> new LinkedHashSet<>()).add(method);
+            }
+        }
+        part.parts().forEach(each -> touches(each, method, touching, changing));
     }
 }
