@@ -15,15 +15,17 @@ public final class SourceText {
     public SourceText(String file, String text) {
         this.file = file;
         this.text = text;
-        plain = text.chars().allMatch(letter -> letter < 0x80);
         int[] found = new int[16];
         int count = 1;
+        int letters = 0;
         for (int k = 0; k < text.length(); k++) {
+            letters |= text.charAt(k);
             if (text.charAt(k) == '\n') {
                 found = count == found.length ? Arrays.copyOf(found, 2 * count) : found;
                 found[count++] = k + 1;
             }
         }
+        plain = letters < 0x80;
         starts = Arrays.copyOf(found, count);
     }
 

@@ -110,15 +110,10 @@ final class Callbacks {
                 || symbol.getEnclosingElement().toString().equals("java.lang.Object")) {
             return;
         }
-        var types = services.attribution().types();
-        TypeMirror type = types.erasure(services.attribution().type(select.getExpression()));
         List<Part> calls = new ArrayList<>();
-        for (JavaMethod method : services.program().named(symbol.getSimpleName())) {
-            if (method.isVirtual() && !method.isAbstract() && types.isSubtype(types.erasure(method.owner().symbol().asType()), type)
-                    && services.attribution().elements().overrides(method.symbol(), symbol, method.owner().symbol())) {
-                calls.add(new Part.Call(new Value.Opaque(method.owner().shape()), services.methods().of(method),
-                    List.of(new Value.Named(body.statics())), services.attribution().name(called.at())));
-            }
+        for (JavaMethod method : services.substitutes().of(symbol, services.attribution().type(select.getExpression()))) {
+            calls.add(new Part.Call(new Value.Opaque(method.owner().shape()), services.methods().of(method),
+                List.of(new Value.Named(body.statics())), services.attribution().name(called.at())));
         }
         body.emit(calls.isEmpty() ? Part.NOTHING : new Part.Either(Dispatch.either(calls), Part.NOTHING));
     }
@@ -183,30 +178,13 @@ final class Callbacks {
 
     private void emit(JavaClass known, TypeElement wanted, Value me, Tree at) {
         List<Part> calls = new ArrayList<>();
-        for (JavaClass each : services.families().kin(known)) {
-            for (JavaMethod method : each.methods()) {
-                if (method.isVirtual() && !method.isAbstract() && replaces(method, wanted)) {
-                    boolean fits = me instanceof Value.Named && me.type().fits(each.shape());
-                    calls.add(new Part.Call(fits ? me : new Value.Opaque(each.shape()), services.methods().of(method),
-                        List.of(new Value.Named(body.statics())), services.attribution().name(at)));
-                }
-            }
+        for (JavaMethod method : services.substitutes().of(known, wanted)) {
+            boolean fits = me instanceof Value.Named && me.type().fits(method.owner().shape());
+            calls.add(new Part.Call(fits ? me : new Value.Opaque(method.owner().shape()), services.methods().of(method),
+                List.of(new Value.Named(body.statics())), services.attribution().name(at)));
         }
         if (!calls.isEmpty()) {
             body.emit(new Part.Repeat(Dispatch.either(calls), services.attribution().name(at)));
         }
-    }
-
-    /** Whether a method stands in the place of one of a library's type, other than those that each object has. */
-    private boolean replaces(JavaMethod method, TypeElement wanted) {
-        for (Element member : services.attribution().elements().getAllMembers(wanted)) {
-            if (member instanceof ExecutableElement above && !above.getModifiers().contains(Modifier.STATIC)
-                    && !above.getEnclosingElement().toString().equals("java.lang.Object")
-                    && above.getSimpleName().equals(method.symbol().getSimpleName())
-                    && services.attribution().elements().overrides(method.symbol(), above, method.owner().symbol())) {
-                return true;
-            }
-        }
-        return false;
     }
 }

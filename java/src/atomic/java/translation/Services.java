@@ -36,6 +36,7 @@ final class Services {
     private final Immutables immutables = new Immutables(this);
     private final Cursors cursors = new Cursors(this);
     private final Wrappers wrappers = new Wrappers(this);
+    private final Substitutes substitutes = new Substitutes(this);
     private final Exits exits = new Exits(this);
     private final LiveObjects liveObjects = new LiveObjects(this);
     private final Map<String, Method> helpers = new HashMap<>();
@@ -97,6 +98,10 @@ final class Services {
 
     Methods methods() {
         return methods;
+    }
+
+    Substitutes substitutes() {
+        return substitutes;
     }
 
     /** What is known of fields by all that is done with them. */

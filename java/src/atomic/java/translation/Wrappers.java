@@ -12,8 +12,11 @@ import com.sun.source.tree.MethodInvocationTree;
 import com.sun.source.tree.NewClassTree;
 import com.sun.source.util.TreeScanner;
 import java.util.ArrayList;
+import java.util.HashMap;
+import java.util.HashSet;
 import java.util.LinkedHashSet;
 import java.util.List;
+import java.util.Map;
 import java.util.Set;
 import javax.lang.model.element.Element;
 import javax.lang.model.element.ElementKind;
@@ -37,6 +40,8 @@ final class Wrappers {
     private static final Set<String> SETTING = Set.of("setOut", "setErr", "setIn");
 
     private final Services services;
+    private final Map<Element, List<Wrapping>> byType = new HashMap<>();
+    private final Map<Element, List<JavaClass>> below = new HashMap<>();
     private Set<Wrapping> found;
     private boolean setsStreams;
 
@@ -66,8 +71,19 @@ final class Wrappers {
         if (!called.choice().keeps()) {
             asked.addAll(called.arguments());
         }
-        return found.stream().filter(each -> asked.stream().anyMatch(object ->
-            isRelated(erased(services.attribution().type(object)), erased(each.wrapper().asType())))).toList();
+        Set<Wrapping> related = new HashSet<>();
+        asked.forEach(object -> related.addAll(related(services.attribution().type(object))));
+        return related.isEmpty() ? List.of() : found.stream().filter(related::contains).toList();
+    }
+
+    /** Those whose objects one of a type may be. */
+    private List<Wrapping> related(TypeMirror type) {
+        TypeMirror erased = erased(type);
+        if (erased == null || erased.getKind() != TypeKind.DECLARED || BROAD.contains(erased.toString())) {
+            return List.of();
+        }
+        return byType.computeIfAbsent(element(erased), key -> found.stream()
+            .filter(each -> isRelated(erased, erased(each.wrapper().asType()))).toList());
     }
 
     /** Whether an expression is one of the program's own streams, which no one sets here. */
@@ -79,8 +95,11 @@ final class Wrappers {
 
     private boolean isRelated(TypeMirror one, TypeMirror other) {
         var types = services.attribution().types();
-        boolean any = one == null || one.getKind() != TypeKind.DECLARED || BROAD.contains(one.toString());
-        return !any && (types.isSubtype(one, other) || types.isSubtype(other, one));
+        return types.isSubtype(one, other) || types.isSubtype(other, one);
+    }
+
+    private Element element(TypeMirror type) {
+        return services.attribution().types().asElement(type);
     }
 
     private TypeMirror erased(TypeMirror type) {
@@ -137,8 +156,8 @@ final class Wrappers {
             if (known != null || type == null || type.getKind() != TypeKind.DECLARED) {
                 return known == null ? List.of() : List.of(known);
             }
-            return services.program().classes().stream().filter(each -> services.attribution().types()
-                .isSubtype(erased(each.symbol().asType()), erased(type))).toList();
+            return below.computeIfAbsent(element(type), key -> services.program().classes().stream().filter(each ->
+                services.attribution().types().isSubtype(erased(each.symbol().asType()), erased(type))).toList());
         }
     }
 }
