@@ -12,7 +12,8 @@ name; a class in one line; long regions; loops in loops that a branch leaves; on
 stream; chained calls; functions in functions; helpers that are given functions; nested classes; static fields; methods
 that call each other in circles; callers of one method; classes of nodes that lead to each other; cases of a switch;
 branches in a row; terms of a sum; overloads; tasks; anonymous classes; classes that override one method; returns;
-tries; regions; locals that each lead on from the one before; elements of an array; constants with bodies; initialisers.
+tries; regions; locals that each lead on from the one before; elements of an array; constants with bodies; initialisers;
+streams that library objects keep; lists that methods give out.
 """
 import argparse
 import resource
@@ -308,12 +309,38 @@ def starts(n: int) -> str:
     )
 
 
+def streams(n: int) -> str:
+    return rows(
+        n,
+        lambda k: f"class S{k} extends java.io.OutputStream {{ private int w;\n"
+        f"public synchronized void write(int x) {{ w += x; }} }}",
+    ) + one(
+        rows(
+            n,
+            lambda k: f"private final java.io.PrintStream s{k} = new java.io.PrintStream(new S{k}());\n"
+            f"public synchronized void m{k}(StringBuilder b) {{ b.append({k}); v++; }}",
+        )
+    )
+
+
+def exits(n: int) -> str:
+    return one(
+        rows(
+            n,
+            lambda k: f"private final {LIST} all{k} = new java.util.ArrayList<>();\n"
+            f"public synchronized {LIST} get{k}() {{ return all{k}; }}\n"
+            f"public synchronized void add{k}(int x) {{ all{k}.add(x); v++; }}",
+        )
+    )
+
+
 FAMILIES: dict[str, Family] = {
     each.__name__: each
     for each in (
         folder, methods, fields, locks, chain, chain_up, heirs, named, line, region, loops, aliases, stages, builder,
         functions, helpers, nested, statics, mutual, callers, linked, cases, branches, sums, overloads, lambdas,
         anonymous, overriding, returns, tries, regions, hops, elements, constants, starts,
+        streams, exits,
     )
 }  # fmt: skip
 

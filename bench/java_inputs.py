@@ -40,6 +40,16 @@ INPUTS = (
     Input("a class path that isn't there", ("--classpath", "nowhere.jar", "good.java"), 0),
     Input("a file that isn't there", ("nowhere.java",), 6, r"cannot read nowhere\.java"),
     Input("no name at all", ("",), 6, "cannot read "),
+    Input("a name of blanks", (" ",), 6, "cannot read  "),
+    Input("a name that doesn't end as a source's", ("text.txt",), 6, r"cannot read text\.txt: its name doesn't end in \.java"),
+    Input("a link to such a file", ("other.java",), 6, r"cannot read other\.java: its name doesn't end in \.java"),
+    Input("a class in two files", ("good.java", "second/A.java"), 1, r"second/A\.java:1:1: error: duplicate class: A"),
+    Input("a folder named as an error", ("1:1: error: x",), 2, r"1:1: error: x/A\.java:1:7: note: .*"),
+    Input("a class path that is no archive", ("--classpath", "text.jar", "good.java"), 1, r"error: .*text\.jar.*"),
+    Input("a module's folder without a name", ("--patch-module", "x", "good.java"), 9, "javac refuses the words: .*"),
+    Input("a library that isn't there", ("--library", "nowhere", "good.java"), 6, "cannot read nowhere"),
+    Input("a library with a bad row", ("--library", "text.txt", "good.java"), 9, r"text\.txt:1: error: .*"),
+    Input("logs where a file stands", ("--log", "good.java", "good.java"), 7, r"cannot write into good\.java"),
     Input("a folder with no source but the module's", ("module",), 6, "no Java source in module"),
     Input("an expression that is nested too deeply", ("deep.java",), 8, TOO_LARGE),
     Input("a skeleton that can't be written", ("--emit", "/dev/full", "good.java"), 7, "cannot write /dev/full"),
@@ -61,6 +71,10 @@ def write(folder: Path) -> None:
         "good.java": GOOD.encode(),
         "two\nlines.java": GOOD.encode(),
         "open.java": b"class A { int v; public void f() { v++; } }\n",
+        "text.jar": b"This isn't Java.\n",
+        "text.txt": b"This isn't Java.\n",
+        "second/A.java": GOOD.encode(),
+        "1:1: error: x/A.java": b"class A { volatile int v; /* atomic */ void f() { v++; } }\n",
         "module/module-info.java": b"module m { }\n",
         "round/B.java": GOOD.replace("class A", "class B").encode(),
         "deep.java": b"class A { int f() { return " + b"(" * DEEP + b"1" + b")" * DEEP + b"; } }\n",
@@ -69,7 +83,7 @@ def write(folder: Path) -> None:
         path = folder / name
         path.parent.mkdir(exist_ok=True)
         path.write_bytes(text)
-    for link, target in (("link.java", "good.java"), ("round/again", "."), ("there", "round")):
+    for link, target in (("link.java", "good.java"), ("round/again", "."), ("there", "round"), ("other.java", "text.txt")):
         os.symlink(target, folder / link)
 
 

@@ -19,7 +19,7 @@ public final class Main {
 
     /** Runs on a thread with a large stack, since sources may be nested deeply. */
     public static void main(String[] words) throws InterruptedException {
-        int[] status = new int[1];
+        int[] status = {Options.FAULT};
         Thread worker = new Thread(null, () -> status[0] = run(words), "atomic-java", STACK);
         worker.start();
         worker.join();
@@ -38,6 +38,11 @@ public final class Main {
             answer.setLength(0);
             answer.append("the sources are too large: memory ran out\n");
             status = Options.NO_MEMORY;
+        } catch (RuntimeException | Error fault) {
+            answer.setLength(0);
+            answer.append("atomic-java has a fault, and gives no answer: ").append(fault).append('\n');
+            fault.printStackTrace();
+            status = Options.FAULT;
         }
         return write(answer) ? status : Options.CANNOT_WRITE;
     }

@@ -18,6 +18,7 @@ import java.util.HashMap;
 import java.util.LinkedHashMap;
 import java.util.List;
 import java.util.Map;
+import java.util.Set;
 import java.util.regex.Pattern;
 import javax.tools.Diagnostic;
 import javax.tools.DiagnosticCollector;
@@ -46,8 +47,7 @@ public final class Javac {
         StandardJavaFileManager manager = compiler.getStandardFileManager(told, null, StandardCharsets.UTF_8);
         Map<Path, String> names = new SourceFiles(options.files()).names();
         StringWriter ownFaults = new StringWriter();
-        JavacTask task = (JavacTask) compiler.getTask(ownFaults, manager, told, words(), null,
-            manager.getJavaFileObjectsFromPaths(names.keySet()));
+        JavacTask task = task(compiler, manager, told, ownFaults, names.keySet());
         Map<CompilationUnitTree, SourceText> sources = new LinkedHashMap<>();
         try {
             for (CompilationUnitTree unit : task.parse()) {
@@ -64,6 +64,16 @@ public final class Javac {
             throw refusal(ownFaults.toString());
         }
         return new Attribution(task, sources);
+    }
+
+    private JavacTask task(JavaCompiler compiler, StandardJavaFileManager manager,
+            DiagnosticCollector<JavaFileObject> told, StringWriter ownFaults, Set<Path> files) {
+        try {
+            return (JavacTask) compiler.getTask(ownFaults, manager, told, words(), null,
+                manager.getJavaFileObjectsFromPaths(files));
+        } catch (IllegalArgumentException fault) {
+            throw new Refusal(Options.USAGE, "javac refuses the words: " + fault.getMessage().lines().findFirst().orElse(""));
+        }
     }
 
     /**

@@ -14,6 +14,8 @@ import java.util.stream.Stream;
 
 /** The files that the words of the command line name. */
 final class SourceFiles {
+    private static final String SUFFIX = ".java";
+
     private final List<String> words;
     private final Map<Path, String> names = new LinkedHashMap<>();
 
@@ -53,7 +55,11 @@ final class SourceFiles {
         if (!Files.isReadable(file)) {
             throw cannotRead(name);
         }
-        names.putIfAbsent(file.toRealPath(), shown(name));
+        Path real = file.toRealPath();
+        if (!real.toString().endsWith(SUFFIX)) {
+            throw new Refusal(Options.CANNOT_READ, "cannot read " + shown(name) + ": its name doesn't end in " + SUFFIX);
+        }
+        names.putIfAbsent(real, shown(name));
     }
 
     private static Refusal cannotRead(String name) {
@@ -69,7 +75,7 @@ final class SourceFiles {
     private static List<Path> sources(Path folder) throws IOException {
         Path real = folder.toRealPath();
         try (Stream<Path> files = Files.walk(real)) {
-            return files.filter(file -> file.toString().endsWith(".java") && Files.isRegularFile(file))
+            return files.filter(file -> file.toString().endsWith(SUFFIX) && Files.isRegularFile(file))
                 .filter(file -> !file.endsWith("module-info.java") && !file.endsWith("package-info.java"))
                 .map(file -> folder.resolve(real.relativize(file))).sorted().toList();
         }

@@ -15,6 +15,7 @@ public final class Options {
     public static final int USAGE = 9;
     public static final int TOO_LARGE = 10;
     public static final int NO_CHECKER = 12;
+    public static final int FAULT = 13;
 
     /** The line that faulty words are answered with. */
     public static final String USAGE_LINE = "usage: atomic-java [--public] [--infer | --majority] [--strict] [--quiet]"
@@ -39,7 +40,8 @@ public final class Options {
         "  --help, --version     this text; the version",
         "",
         "A method is marked by @Atomic or by a comment /* atomic */ before it. Status 0: accepted; 2: refused;",
-        "1: javac finds errors; 6: a file can't be read; 7: the answer can't be written; 9: faulty words.");
+        "1: javac finds errors; 6: a file can't be read; 7: the answer can't be written; 9: faulty words;",
+        "13: a fault of this program.");
 
     private static final Set<String> WITH_VALUE = Set.of("--classpath", "--patch-module", "--library", "--emit",
         "--explain", "--log");
