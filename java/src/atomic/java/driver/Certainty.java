@@ -46,7 +46,10 @@ final class Certainty {
         return !sure.get(0).endsWith(UNGUARDED) || !block.get(0).endsWith(UNGUARDED);
     }
 
-    /** All lines: each error, and behind it its explanation; {@code witnesses} has for a place the line about who may run in between. */
+    /**
+     * All lines: each error, and behind it its explanation; {@code witnesses} has for a place the line about who may run in
+     * between.
+     */
     List<String> lines(Map<String, String> witnesses) {
         List<String> all = new ArrayList<>();
         blocks(lines).forEach((key, block) -> {

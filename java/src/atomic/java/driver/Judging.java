@@ -49,6 +49,7 @@ final class Judging {
     private final List<Text> texts = new ArrayList<>();
     private final Map<String, String> found = new HashMap<>();
     private final Pieces pieces;
+    private List<String> inOrder;
     private Method pastLimit;
     private int repairs;
     private int status;
@@ -133,7 +134,10 @@ final class Judging {
         asked.clear();
     }
 
-    /** Of these places of methods with an error, those where somebody can tell that another thread came in between: what ran there. */
+    /**
+     * Of these places of methods with an error, those where somebody can tell that another thread came in between: what ran
+     * there.
+     */
     Map<String, String> witnesses(Set<String> places) {
         Interruptions interruptions = new Interruptions(program, methods.callable(), methods::givesNothing);
         Map<String, String> witnesses = new HashMap<>();
@@ -307,7 +311,8 @@ final class Judging {
 
     /** What was told: of several texts the errors in the order of the sources, each once. */
     List<String> lines() {
-        return texts.size() <= 1 ? lines : Certainty.inOrder(lines);
+        inOrder = inOrder != null ? inOrder : texts.size() <= 1 ? lines : Certainty.inOrder(lines);
+        return inOrder;
     }
 
     List<Text> texts() {

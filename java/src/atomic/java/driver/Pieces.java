@@ -131,24 +131,10 @@ final class Pieces {
     }
 
     private List<Method> largestFirst(List<Method> roots) {
+        Reach reach = new Reach(this::bytes, this::next);
         Map<Method, Integer> sizes = new HashMap<>();
-        roots.forEach(root -> sizes.put(root, reachedBytes(root)));
+        roots.forEach(root -> sizes.put(root, reach.bytes(root, Checker.MOST_BYTES)));
         return roots.stream().sorted(Comparator.comparing(sizes::get).reversed()).toList();
-    }
-
-    /** The bytes of a method and all that it reaches, as far as they fit into one text. */
-    private int reachedBytes(Method root) {
-        Set<Method> reached = new HashSet<>();
-        Deque<Method> further = new ArrayDeque<>(List.of(root));
-        int bytes = 0;
-        while (!further.isEmpty() && bytes < Checker.MOST_BYTES) {
-            Method each = further.pop();
-            if (reached.add(each)) {
-                bytes += bytes(each);
-                further.addAll(next(each));
-            }
-        }
-        return Math.min(bytes, Checker.MOST_BYTES);
     }
 
     /** A method and all that it calls or overrides, and what overrides these, without those that are known before. */

@@ -137,31 +137,38 @@ public final class Waiting {
             method.required().forEach(path -> all.add(path.type()));
             held.put(method, all);
         });
+        Map<Method, Map<Set<Shape>, Set<Method>>> calls = new HashMap<>();
         Set<Method> next = new LinkedHashSet<>(methods);
         while (!next.isEmpty()) {
             Method method = next.iterator().next();
             next.remove(method);
-            spread(method.body(), held.get(method), next);
+            calls.computeIfAbsent(method, this::calls).forEach((inside, called) -> {
+                Set<Shape> locks = new HashSet<>(held.get(method));
+                locks.addAll(inside);
+                called.stream().filter(each -> held.containsKey(each) && held.get(each).addAll(locks)).forEach(next::add);
+            });
         }
     }
 
-    /** Gives what is held to the methods that are called; those that get more have to give it on. */
-    private void spread(Part part, Set<Shape> locks, Set<Method> more) {
+    /** What a method calls, by the classes of the locks that it takes around that. */
+    private Map<Set<Shape>, Set<Method>> calls(Method method) {
+        Map<Set<Shape>, Set<Method>> calls = new LinkedHashMap<>();
+        calls(method.body(), Set.of(), calls);
+        return calls;
+    }
+
+    private void calls(Part part, Set<Shape> locks, Map<Set<Shape>, Set<Method>> calls) {
         if (part instanceof Part.Call call) {
-            for (Method callee : callees.of(call.target())) {
-                if (held.get(callee) != null && held.get(callee).addAll(locks)) {
-                    more.add(callee);
-                }
-            }
-        } else if (part instanceof Part.Region region) {
-            Set<Shape> inside = new HashSet<>(locks);
-            if (region.lock() != null) {
-                inside.add(region.lock().type());
-            }
-            spread(region.body(), inside, more);
-            return;
+            calls.computeIfAbsent(locks, key -> new LinkedHashSet<>()).addAll(callees.of(call.target()));
         }
-        part.parts().forEach(each -> spread(each, locks, more));
+        Set<Shape> inside = locks;
+        if (part instanceof Part.Region region && region.lock() != null) {
+            inside = new HashSet<>(locks);
+            inside.add(region.lock().type());
+        }
+        for (Part each : part.parts()) {
+            calls(each, inside, calls);
+        }
     }
 
     /** What came before a place of a region. */
