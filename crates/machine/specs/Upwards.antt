@@ -12,6 +12,6 @@ runs_below (Some nearest) None = None
 runs_below (Some nearest) (Some above) = Some nearest
 
 -- what runs for a method, as a look tells it
-abbrev pub gives : Program → ℕ → Look → Option ℕ
-gives P m (Ends runs) = runs
-gives P m (GoesOn class nearest) = runs_below nearest (target_of P class m)
+abbrev pub look_tells : Program → ℕ → Look → Option ℕ
+look_tells P m (Ends runs) = runs
+look_tells P m (GoesOn class nearest) = runs_below nearest (target_of P class m)

@@ -2,7 +2,7 @@
 ghost use Rattle.std.specs.Prelude.{◌≡◌, Some, slice_get};
 ghost use Rattle.core_program.specs.Dispatch.{target_of};
 ghost use Rattle.core_program.specs.Views.{program_of};
-ghost use Rattle.machine.specs.Upwards.{gives};
+ghost use Rattle.machine.specs.Upwards.{look_tells};
 
 use crate::upwards::{Look, name_of, pass, runs_below};
 use crate::weights::{CHEAP, copied, dear_weights, is_boundary};
@@ -125,7 +125,7 @@ impl<'p> Targets<'p> {
     /// A look from a class up to the next one at which looks end.
     fn look(&self, class: ClassId, method: MethodId, name: u32) -> Look
         requires { slice_get self.now.names.items method ≡ Some name }
-        ensures { gives (program_of self.now) method result ≡ target_of (program_of self.now) class method }
+        ensures { look_tells (program_of self.now) method result ≡ target_of (program_of self.now) class method }
     {
         let mut at = class;
         let mut nearest = None;

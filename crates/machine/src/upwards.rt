@@ -5,7 +5,7 @@ ghost use Rattle.core_program.specs.Dispatch.{inherited_target, target_of};
 ghost use Rattle.core_program.specs.Kept.{kept_class};
 ghost use Rattle.core_program.specs.Pairs.{own_named};
 ghost use Rattle.core_program.specs.Views.{kept_classes, program_of};
-ghost use Rattle.machine.specs.Upwards.{runs_below, gives};
+ghost use Rattle.machine.specs.Upwards.{runs_below, look_tells};
 
 use core_program::{CoreClass, CoreProgram};
 use paths::{ClassId, MethodId};
@@ -72,7 +72,7 @@ pub(crate) fn runs_below(nearest: Option<MethodId>, above: Option<MethodId>) -> 
 
 /// The look goes on to the class above, if there is one.
 fn goes_on(above: Option<ClassId>, nearest: Option<MethodId>) -> Look
-    ensures { (P : Program) (m : ℕ) → gives P m result ≡ runs_below nearest (inherited_target P above m) }
+    ensures { (P : Program) (m : ℕ) → look_tells P m result ≡ runs_below nearest (inherited_target P above m) }
 {
     match above {
         Some(above) => Look::GoesOn(above, nearest),
@@ -89,7 +89,7 @@ pub(crate) fn pass(
     name: u32,
 ) -> Look
     requires { slice_get program.now.names.items method ≡ Some name }
-    ensures { gives (program_of program.now) method result ≡ runs_below nearest (target_of (program_of program.now) class method) }
+    ensures { look_tells (program_of program.now) method result ≡ runs_below nearest (target_of (program_of program.now) class method) }
 {
     let Some(found) = class_numbered(program, class) else {
         return Look::Ends(None);
