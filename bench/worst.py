@@ -15,6 +15,7 @@ own_more    own, where each of these calls a method with seven relevant paths as
 waves       such classes with the same locks, of which 40 come to be compound, each a pass after the one before
 own_waves   own_more, of which 40 come to be compound so
 masks       waves, where all of them call methods with other locks each
+threes      classes in a line that override three methods each and call that one, of which 40 come to be compound so
 empty       classes in a line, each of which overrides an empty method
 names       the same with three methods
 pairs       classes that inherit many methods, and override none
@@ -163,6 +164,12 @@ def waves(count: int) -> str:
     return MAIN + locked(methods=rising_methods()) + broom(count // 2, calls) + LAST_RISING
 
 
+def threes(count: int) -> str:
+    calls = ["x.g();" + f"x.s{k}();" * (k < WAVES) for k in reversed(range(count))]
+    line = heirs(count, lambda k: "".join(f"void {name}(final X x){{{calls[k]}}}" for name in "fgh"))
+    return MAIN + locked(methods=rising_methods()) + "".join(line) + LAST_RISING
+
+
 def empty(count: int) -> str:
     return MAIN + "".join(heirs(count, lambda k: "void f(){}"))
 
@@ -261,6 +268,7 @@ FAMILIES: dict[str, Family] = {
     "waves": waves,
     "own_waves": own_waves,
     "masks": masks,
+    "threes": threes,
     "empty": empty,
     "names": names,
     "pairs": pairs,
