@@ -17,7 +17,8 @@ out=$(cd "$out" && pwd)
 work=$(mktemp -d)
 trap 'rm -rf "$work"' EXIT
 find "$top/java/src" "$top/java/annotations" -name '*.java' > "$work/sources"
-javac -J-XX:TieredStopAtLevel=1 -J-XX:+UseSerialGC --release 17 -Xlint:all -Werror -encoding UTF-8 -d "$work/classes" "@$work/sources"
+javac -J-XX:TieredStopAtLevel=1 -J-XX:+UseSerialGC --release 17 -Xlint:all -Werror -encoding UTF-8 \
+    -d "$work/classes" "@$work/sources"
 (cd "$top/java/src" && find . -type f ! -name '*.java') | while read -r file; do
     cp "$top/java/src/$file" "$work/classes/$file"
 done
