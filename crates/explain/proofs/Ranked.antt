@@ -288,6 +288,14 @@ known_next bounds P rel A overs grounds m method row level round inside late low
           circle = λ l has. circling.open_ones m late;
         }) circling.ranked circling.open_ones)
 
+-- a row that may have the rank is there
+pub may_be_there : (grounds : List Ground) (m : ℕ) (round : ℕ) → may_rank grounds round (slice_get grounds m) ≡ true → m < length grounds
+may_be_there grounds m round may = by (slice_get grounds m) refl may
+  where
+    by : (o : Option Ground) → slice_get grounds m ≡ o → may_rank grounds round o ≡ true → m < length grounds
+    by None at is = absurd (false≢true is)
+    by (Some row) at is = slice_get_within grounds m row at
+
 -- a row that may have the rank
 module _ (bounds : Bounds) (P : Program) (rel : ℕ → List PathData) (A : Assignment) (overs : ℕ → List ℕ) (grounds : List Ground) (m : ℕ) (row : Ground) (round : ℕ) where
   row_is_next : (o : Option Ground) → slice_get grounds m ≡ o → may_rank grounds round o ≡ true → round < open_rank → ((was : Ground) → o ≡ Some was → row ≡ ground_with round was.level was.lead)
@@ -317,4 +325,5 @@ pub record KeepsCircling (P : Program) (rel : ℕ → List PathData) (A : Assign
 -- as explanations are, of whatever program
 pub record KeepsLed (round : ℕ) (old now : List Ground) : Type 0 where
   pub many : length now ≡ length old
+  pub ranked : (bounds : Bounds) (P : Program) (rel : ℕ → List PathData) (A : Assignment) (overs : ℕ → List ℕ) → AreRanked bounds P rel A overs old (round + 1) → AreRanked bounds P rel A overs now (round + 1)
   pub circling : (bounds : Bounds) (P : Program) (rel : ℕ → List PathData) (A : Assignment) (overs : ℕ → List ℕ) → AreCircling bounds P rel A overs old (round + 1) → AreCircling bounds P rel A overs now (round + 1)

@@ -1,13 +1,8 @@
-//! Which methods of circles are asked for a ground again: those that call one that has got its rank since they were asked, or that one of
-//! these overrides. No ground rests on it, since all methods are asked once more in the end.
+//! Which methods are asked for a ground next: those that wait for one that has got its rank since they were asked. No ground rests on it, since
+//! all methods are asked once more in the end.
 
-ghost use Rattle.std.specs.Prelude.{◌≤◌, ◌^◌, length};
-ghost use Rattle.core_program.specs.Views.{program_of};
-
-use crate::grounds::Ground;
 use algebra::Basic;
-use core_program::CoreProgram;
-use rules::{Callers, OverridingMethods, callers_of};
+use paths::MethodId;
 use std::alloc::{AllocError as NoMemory, Global};
 use std::mem::replace;
 
@@ -57,93 +52,127 @@ fn unmark(is_due: &mut Vec<bool>, place: usize) {
     }
 }
 
-/// Whether a method has no rank.
-fn has_open(grounds: &[Ground]) -> bool {
-    for ground in grounds {
-        if ground.rank == OPEN {
-            return true;
-        }
+/// No methods, for each of so many.
+fn none_for_each(alloc: Global, count: usize) -> Result<Vec<Vec<usize>>, NoMemory> {
+    let mut rows = Vec::new(alloc);
+    for _ in 0..count {
+        rows.push(Vec::new(alloc))?;
     }
-    false
+    Ok(rows)
 }
 
-/// The callers of each method, and those methods that are to be asked: as they are, whether they are errors by what is known, and whether
-/// they are compound by it.
+/// The methods that wait for each method, by their places, and those that are to be asked.
 #[derive(Drop)]
-pub(crate) struct Circles {
-    callers: Vec<Callers>,
-    led: Due,
-    errors: Due,
-    compounds: Due,
+struct Queue {
+    waiting: Vec<Vec<usize>>,
+    due: Due,
 }
 
-impl Circles {
-    /// Those methods that have no rank are to be asked what they are by what is known.
-    pub(crate) fn new(
-        alloc: Global,
-        program: &CoreProgram,
-        over: &OverridingMethods,
-        grounds: &[Ground],
-    ) -> Result<Circles, NoMemory>
-        requires { length (program_of program.now).methods ≤ 2 ^ 32 }
-    {
-        let callers = if has_open(grounds) {
-            callers_of(alloc, program, over)?
-        } else {
-            Vec::new(alloc)
-        };
-        let mut circles = Circles {
-            callers,
-            led: Due::new(alloc, grounds.len())?,
-            errors: Due::new(alloc, grounds.len())?,
-            compounds: Due::new(alloc, grounds.len())?,
-        };
-        for (place, ground) in grounds.iter().enumerate() {
-            circles.add_open(place, ground)?;
-        }
-        Ok(circles)
+impl Queue {
+    /// None of so many methods waits, and none is to be asked.
+    fn new(alloc: Global, count: usize) -> Result<Queue, NoMemory> {
+        Ok(Queue {
+            waiting: none_for_each(alloc, count)?,
+            due: Due::new(alloc, count)?,
+        })
     }
 
-    /// Adds a method to those that are asked by what is known, where it has no rank.
-    fn add_open(&mut self, place: usize, ground: &Ground) -> Result<(), NoMemory> {
-        if ground.rank != OPEN {
-            return Ok(());
+    /// Adds a method that waits for another.
+    fn add(&mut self, place: usize, awaited: MethodId) -> Result<(), NoMemory> {
+        let row = awaited.0 as usize;
+        if row < self.waiting.len() {
+            self.waiting[row].push(place)?;
         }
-        self.errors.add(place)?;
-        self.compounds.add(place)
+        Ok(())
     }
 
-    /// Adds all callers of a method.
-    pub(crate) fn add_callers(&mut self, place: usize) -> Result<(), NoMemory> {
-        let Some(row) = self.callers.get(place) else {
+    /// The methods that wait for this one are to be asked.
+    fn wake(&mut self, place: usize) -> Result<(), NoMemory> {
+        let Some(row) = self.waiting.get(place) else {
             return Ok(());
         };
-        for caller in row.callers() {
-            self.led.add(*caller)?;
-            self.errors.add(*caller)?;
-            self.compounds.add(*caller)?;
+        for waiter in row.as_slice() {
+            self.due.add(*waiter)?;
         }
         Ok(())
     }
 
     /// Whether none is to be asked.
+    fn is_done(&self) -> bool {
+        self.due.places.is_empty()
+    }
+}
+
+/// Who waits to be asked as it is, whether it is an error by what is known, and whether it is compound by that.
+#[derive(Drop)]
+pub(crate) struct Queues {
+    led: Queue,
+    errors: Queue,
+    compounds: Queue,
+}
+
+impl Queues {
+    /// None of so many methods waits, and none is to be asked.
+    pub(crate) fn new(alloc: Global, count: usize) -> Result<Queues, NoMemory> {
+        Ok(Queues {
+            led: Queue::new(alloc, count)?,
+            errors: Queue::new(alloc, count)?,
+            compounds: Queue::new(alloc, count)?,
+        })
+    }
+
+    /// Adds a method whose explanation as it is leads to another.
+    pub(crate) fn add_led(&mut self, place: usize, lead: MethodId) -> Result<(), NoMemory> {
+        self.led.add(place, lead)
+    }
+
+    /// Adds a method that is more than `atomic` by another, which is an error or compound.
+    pub(crate) fn add_known(
+        &mut self,
+        place: usize,
+        awaited: MethodId,
+        is_error: bool,
+    ) -> Result<(), NoMemory> {
+        if is_error {
+            self.errors.add(place, awaited)?;
+        }
+        self.compounds.add(place, awaited)
+    }
+
+    /// A method is to be asked what it is by what is known.
+    pub(crate) fn ask_known(&mut self, place: usize) -> Result<(), NoMemory> {
+        self.errors.due.add(place)?;
+        self.compounds.due.add(place)
+    }
+
+    /// The methods that wait for this one are to be asked.
+    pub(crate) fn wake(&mut self, place: usize) -> Result<(), NoMemory> {
+        self.led.wake(place)?;
+        self.errors.wake(place)?;
+        self.compounds.wake(place)
+    }
+
+    /// Whether none is to be asked as it is.
+    pub(crate) fn is_led_done(&self) -> bool {
+        self.led.is_done()
+    }
+
+    /// Whether none is to be asked.
     pub(crate) fn is_done(&self) -> bool {
-        self.led.places.is_empty()
-            && self.errors.places.is_empty()
-            && self.compounds.places.is_empty()
+        self.led.is_done() && self.errors.is_done() && self.compounds.is_done()
     }
 
     /// Takes out those that are asked as they are.
     pub(crate) fn take_led(&mut self, alloc: Global) -> Vec<usize> {
-        self.led.take(alloc)
+        self.led.due.take(alloc)
     }
 
     /// Takes out those that are asked whether they are more than a level.
     pub(crate) fn take_known(&mut self, alloc: Global, level: Basic) -> Vec<usize> {
         if level == Basic::Atomic {
-            self.compounds.take(alloc)
+            self.compounds.due.take(alloc)
         } else {
-            self.errors.take(alloc)
+            self.errors.due.take(alloc)
         }
     }
 }

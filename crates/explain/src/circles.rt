@@ -1,6 +1,6 @@
 //! Ranks of methods of circles, and of all methods.
 
-ghost use Rattle.std.specs.Prelude.{◌≡◌, ◌≤◌, ◌<◌, ◌+◌, ◌^◌, ℕ, List, false, length, IfOk, OnOk};
+ghost use Rattle.std.specs.Prelude.{◌≡◌, ◌≤◌, ◌<◌, ◌+◌, ◌^◌, ℕ, List, false, length, slice_get, IfOk, OnOk};
 ghost use Rattle.algebra.specs.declared.basic.Basic.TheVariants.{Atomic};
 ghost use Rattle.core_program.specs.Core.{Program};
 ghost use Rattle.core_program.specs.Views.{program_of};
@@ -10,14 +10,15 @@ ghost use Rattle.rules.specs.Near.{rel_of};
 ghost use Rattle.rules.specs.Rules.{AtMost};
 ghost use Rattle.rules.specs.Search.{row_at};
 ghost use Rattle.explain.specs.declared.ranking.Bounds.{Bounds};
-ghost use Rattle.explain.specs.Ranking.{AreAllRanked, AreCircling, AreStuck, open_rank};
+ghost use Rattle.explain.specs.Ranking.{AreAllRanked, AreCircling, AreRanked, AreStuck, may_rank, open_rank};
 
-use crate::asked::{Circles, OPEN};
+use crate::asked::{OPEN, Queues};
 use crate::grounds::Ground;
 use crate::program::method_at;
 use crate::ranking::{
     Bounds, Round, first_grounds, rank_all_known, rank_all_led, rank_known, rank_led,
 };
+use crate::waiting::{add_open, led_queues};
 use crate::walk::Walk;
 use algebra::Basic;
 use effects::Assigned;
@@ -25,53 +26,33 @@ use paths::MethodId;
 use rules::OverridingMethods;
 use std::alloc::{AllocError as NoMemory, Global};
 
-/// Gives this rank to a method that has none, where its explanation as it is leads nowhere or to a smaller rank; then its callers are to be
-/// asked.
-fn rank_due_led(
-    grounds: &mut Vec<Ground>,
-    circles: &mut Circles,
-    place: usize,
-    number: u64,
-) -> Result<bool, NoMemory>
-    requires { number < open_rank }
-    ensures length { length grounds.new.items ≡ length grounds.old.items }
-    ensures circling { OnOk result ((bounds : Bounds) (P : Program) (rel : ℕ → List PathData) (A : Assignment) (overs : ℕ → List ℕ) → AreCircling bounds P rel A overs grounds.old.items (number + 1) → AreCircling bounds P rel A overs grounds.new.items (number + 1)) }
-{
-    if place >= grounds.len() {
-        return Ok(false);
-    }
-    if !rank_led(grounds, place, number) {
-        return Ok(false);
-    }
-    circles.add_callers(place)?;
-    Ok(true)
-}
-
-/// Gives this rank to all such methods that are to be asked.
+/// Gives this rank to those methods that are to be asked as they are, have none, and lead nowhere or to a smaller rank.
 fn rank_all_due_led(
     alloc: Global,
     grounds: &mut Vec<Ground>,
-    circles: &mut Circles,
+    queues: &mut Queues,
     number: u64,
 ) -> Result<bool, NoMemory>
     requires { number < open_rank }
     ensures length { length grounds.new.items ≡ length grounds.old.items }
+    ensures ranked { OnOk result ((bounds : Bounds) (P : Program) (rel : ℕ → List PathData) (A : Assignment) (overs : ℕ → List ℕ) → AreRanked bounds P rel A overs grounds.old.items (number + 1) → AreRanked bounds P rel A overs grounds.new.items (number + 1)) }
     ensures circling { OnOk result ((bounds : Bounds) (P : Program) (rel : ℕ → List PathData) (A : Assignment) (overs : ℕ → List ℕ) → AreCircling bounds P rel A overs grounds.old.items (number + 1) → AreCircling bounds P rel A overs grounds.new.items (number + 1)) }
 {
-    let places = circles.take_led(alloc);
+    let places = queues.take_led(alloc);
     let mut any = false;
     for place in places.as_slice() {
-        any |= rank_due_led(grounds, circles, *place, number)?;
+        any |= rank_led(grounds, queues, *place, number)?;
     }
     Ok(any)
 }
 
-/// Gives this rank to a method that has none, where it has a reason by what is known before it; then its callers are to be asked.
+/// Gives this rank to a method that has none, where it has a reason by what is known before it; then those that wait for it
+/// are to be asked.
 fn rank_due_known<A: Assigned>(
     walk: &Walk<'_, A>,
     over: &OverridingMethods,
     grounds: &mut Vec<Ground>,
-    circles: &mut Circles,
+    queues: &mut Queues,
     round: &Round,
     place: usize,
 ) -> Result<bool, NoMemory>
@@ -92,7 +73,7 @@ fn rank_due_known<A: Assigned>(
     if !rank_known(walk, over, grounds, round, id, method)? {
         return Ok(false);
     }
-    circles.add_callers(place)?;
+    queues.wake(place)?;
     Ok(true)
 }
 
@@ -101,7 +82,7 @@ fn rank_all_due_known<A: Assigned>(
     walk: &Walk<'_, A>,
     over: &OverridingMethods,
     grounds: &mut Vec<Ground>,
-    circles: &mut Circles,
+    queues: &mut Queues,
     round: &Round,
 ) -> Result<bool, NoMemory>
     requires few { length (program_of walk.now.program.now).methods ≤ 2 ^ 32 }
@@ -111,10 +92,10 @@ fn rank_all_due_known<A: Assigned>(
     ensures length { length grounds.new.items ≡ length grounds.old.items }
     ensures circling { OnOk result ((bounds : Bounds) → AreCircling bounds (program_of walk.now.program.now) (rel_of walk.now.sets.now) (A.Assigned.assigned walk.now.assigned.now) (row_at over.now) grounds.old.items (round.now.number + 1) → AreCircling bounds (program_of walk.now.program.now) (rel_of walk.now.sets.now) (A.Assigned.assigned walk.now.assigned.now) (row_at over.now) grounds.new.items (round.now.number + 1)) }
 {
-    let places = circles.take_known(walk.alloc, round.level);
+    let places = queues.take_known(walk.alloc, round.level);
     let mut any = false;
     for place in places.as_slice() {
-        any |= rank_due_known(walk, over, grounds, circles, round, *place)?;
+        any |= rank_due_known(walk, over, grounds, queues, round, *place)?;
     }
     Ok(any)
 }
@@ -125,7 +106,7 @@ fn rank_all_due<A: Assigned>(
     walk: &Walk<'_, A>,
     over: &OverridingMethods,
     grounds: &mut Vec<Ground>,
-    circles: &mut Circles,
+    queues: &mut Queues,
     number: u64,
 ) -> Result<(), NoMemory>
     requires few { length (program_of walk.now.program.now).methods ≤ 2 ^ 32 }
@@ -134,21 +115,21 @@ fn rank_all_due<A: Assigned>(
     ensures length { length grounds.new.items ≡ length grounds.old.items }
     ensures circling { OnOk result ((bounds : Bounds) → AreCircling bounds (program_of walk.now.program.now) (rel_of walk.now.sets.now) (A.Assigned.assigned walk.now.assigned.now) (row_at over.now) grounds.old.items (number + 1) → AreCircling bounds (program_of walk.now.program.now) (rel_of walk.now.sets.now) (A.Assigned.assigned walk.now.assigned.now) (row_at over.now) grounds.new.items (number + 1)) }
 {
-    if rank_all_due_led(walk.alloc, grounds, circles, number)? {
+    if rank_all_due_led(walk.alloc, grounds, queues, number)? {
         return Ok(());
     }
     let errors = Round {
         number,
         level: Basic::Cmpd,
     };
-    if rank_all_due_known(walk, over, grounds, circles, &errors)? {
+    if rank_all_due_known(walk, over, grounds, queues, &errors)? {
         return Ok(());
     }
     let compounds = Round {
         number,
         level: Basic::Atomic,
     };
-    rank_all_due_known(walk, over, grounds, circles, &compounds)?;
+    rank_all_due_known(walk, over, grounds, queues, &compounds)?;
     Ok(())
 }
 
@@ -158,7 +139,7 @@ fn rank_next<A: Assigned>(
     walk: &Walk<'_, A>,
     over: &OverridingMethods,
     grounds: &mut Vec<Ground>,
-    circles: &mut Circles,
+    queues: &mut Queues,
     number: u64,
 ) -> Result<bool, NoMemory>
     requires few { length (program_of walk.now.program.now).methods ≤ 2 ^ 32 }
@@ -174,10 +155,10 @@ fn rank_next<A: Assigned>(
         number,
         level: Basic::Atomic,
     };
-    if circles.is_done() {
+    if queues.is_done() {
         return rank_all_known(walk, over, grounds, &compounds);
     }
-    rank_all_due(walk, over, grounds, circles, number)?;
+    rank_all_due(walk, over, grounds, queues, number)?;
     Ok(true)
 }
 
@@ -186,6 +167,7 @@ fn rank_circles<A: Assigned>(
     walk: &Walk<'_, A>,
     over: &OverridingMethods,
     given: Vec<Ground>,
+    waiting: Queues,
     first: u64,
 ) -> Result<Vec<Ground>, NoMemory>
     requires few { length (program_of walk.now.program.now).methods ≤ 2 ^ 32 }
@@ -193,14 +175,36 @@ fn rank_circles<A: Assigned>(
     ensures { IfOk result (λ ranked. (bounds : Bounds) → AreCircling bounds (program_of walk.now.program.now) (rel_of walk.now.sets.now) (A.Assigned.assigned walk.now.assigned.now) (row_at over.now) given.items first →
         AreAllRanked bounds (program_of walk.now.program.now) (rel_of walk.now.sets.now) (A.Assigned.assigned walk.now.assigned.now) (row_at over.now) ranked.items) }
 {
-    let mut circles = Circles::new(walk.alloc, walk.program, over, given.as_slice())?;
+    let mut queues = waiting;
+    add_open(walk, over, given.as_slice(), &mut queues)?;
     let mut grounds = given;
     for round in first..OPEN {
-        if !rank_next(walk, over, &mut grounds, &mut circles, round)? {
+        if !rank_next(walk, over, &mut grounds, &mut queues, round)? {
             return Ok(grounds);
         }
     }
     Err(NoMemory)
+}
+
+/// Gives this rank to methods that have none and lead nowhere or to a smaller rank: to those that are to be asked; where there are none to be
+/// asked, to all. Answers whether ranks may be left.
+fn rank_next_led(
+    alloc: Global,
+    grounds: &mut Vec<Ground>,
+    queues: &mut Queues,
+    round: u64,
+) -> Result<bool, NoMemory>
+    requires { round < open_rank }
+    ensures length { length grounds.new.items ≡ length grounds.old.items }
+    ensures ranked { OnOk result ((bounds : Bounds) (P : Program) (rel : ℕ → List PathData) (A : Assignment) (overs : ℕ → List ℕ) → AreRanked bounds P rel A overs grounds.old.items (round + 1) → AreRanked bounds P rel A overs grounds.new.items (round + 1)) }
+    ensures same { IfOk result (λ any. any ≡ false → grounds.new.items ≡ grounds.old.items) }
+    ensures stuck { IfOk result (λ any. any ≡ false → (place : ℕ) → place < length grounds.old.items → may_rank grounds.old.items round (slice_get grounds.old.items place) ≡ false) }
+{
+    if queues.is_led_done() {
+        return rank_all_led(grounds, queues, round);
+    }
+    rank_all_due_led(alloc, grounds, queues, round)?;
+    Ok(true)
 }
 
 /// On what the explanation of each method rests. As long as methods can be ranked as they are, each round ranks one; all that are left then
@@ -214,9 +218,10 @@ pub fn find_grounds<A: Assigned>(
     ensures { IfOk result (λ grounds. AreAllRanked bounds (program_of walk.now.program.now) (rel_of walk.now.sets.now) (A.Assigned.assigned walk.now.assigned.now) (row_at over.now) grounds.items) }
 {
     let mut grounds = first_grounds(walk, over, bounds)?;
+    let mut queues = led_queues(walk.alloc, grounds.as_slice())?;
     for round in 1..OPEN {
-        if !rank_all_led(&mut grounds, round) {
-            return rank_circles(walk, over, grounds, round);
+        if !rank_next_led(walk.alloc, &mut grounds, &mut queues, round)? {
+            return rank_circles(walk, over, grounds, queues, round);
         }
     }
     Err(NoMemory)

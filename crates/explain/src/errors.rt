@@ -77,7 +77,7 @@ fn is_wrong_stmt<A>(walk: &Walk<'_, A>, s: &CoreStmt, held: &[Path]) -> bool
 }
 
 /// Whether a part is an error by itself.
-fn is_wrong<A: Assigned>(walk: &Walk<'_, A>, v: &Visited<'_>) -> Result<bool, NoMemory>
+pub(crate) fn is_wrong<A: Assigned>(walk: &Walk<'_, A>, v: &Visited<'_>) -> Result<bool, NoMemory>
     ensures { IfOk result (λ b. let P = program_of walk.now.program.now in let rel = rel_of walk.now.sets.now in let T = A.Assigned.assigned walk.now.assigned.now in
         b ≡ is_error (own_at P rel T (visit_of v.now))) }
 {

@@ -48,7 +48,10 @@ pub(crate) fn taken<'p>(visits: Vec<Visited<'p>>, place: usize) -> Option<Visite
 }
 
 /// Whether a step is compound by itself.
-fn is_compound<A: Assigned>(walk: &Walk<'_, A>, step: &Visited<'_>) -> Result<bool, NoMemory>
+pub(crate) fn is_compound<A: Assigned>(
+    walk: &Walk<'_, A>,
+    step: &Visited<'_>,
+) -> Result<bool, NoMemory>
     ensures { IfOk result (λ b. b ≡ is_cmpd (own_at (program_of walk.now.program.now) (rel_of walk.now.sets.now) (A.Assigned.assigned walk.now.assigned.now) (visit_of step.now))) }
 {
     match step.part {
@@ -320,7 +323,7 @@ pub(crate) fn walk_body<'p, A: Assigned>(
 }
 
 /// What a walk through a method's body finds at its required paths, and its effect there.
-fn walk_method<'p, A: Assigned>(
+pub(crate) fn walk_method<'p, A: Assigned>(
     walk: &Walk<'_, A>,
     method: &'p CoreMethod,
 ) -> Result<(Basic, Found<'p>), NoMemory>

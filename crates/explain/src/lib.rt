@@ -23,6 +23,7 @@ mod step_and_place_laws;
 mod strict;
 mod takings;
 mod unguarded;
+mod waiting;
 mod walk;
 mod wrapping;
 

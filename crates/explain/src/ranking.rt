@@ -13,7 +13,7 @@ ghost use Rattle.explain.specs.declared.ranking.Bounds.{Bounds};
 ghost use Rattle.explain.specs.Leads.{limit_for, told_limit};
 ghost use Rattle.explain.specs.Ranking.{AreCircling, AreRanked, AreStuck, first_ground, first_grounds, ground_by, is_stuck_at, may_rank, open_rank};
 
-use crate::asked::OPEN;
+use crate::asked::{OPEN, Queues};
 use crate::explaining::why_more;
 use crate::grounds::{Ground, Lowered, is_reason, leads_below, rank_at, reason_lead, why_known};
 use crate::program::keeps;
@@ -114,43 +114,54 @@ pub(crate) fn first_grounds<A: Assigned>(
 
 /// Whether a method has no rank, and its explanation leads nowhere or to a method of smaller rank than this.
 fn may_rank(grounds: &[Ground], place: usize, round: u64) -> bool
-    requires { place < length grounds.now }
     ensures { result ≡ may_rank grounds.now round (slice_get grounds.now place) }
 {
-    let ground = &grounds[place];
-    ground.rank == OPEN && leads_below(grounds, round, &ground.lead)
+    match grounds.get(place) {
+        Some(ground) => ground.rank == OPEN && leads_below(grounds, round, &ground.lead),
+        None => false,
+    }
 }
 
-/// Gives this rank to a method that has none, where its explanation leads nowhere or to a method of smaller rank.
-pub(crate) fn rank_led(grounds: &mut Vec<Ground>, place: usize, round: u64) -> bool
-    requires place { place < length grounds.old.items }
-    requires round { round < open_rank }
+/// Gives this rank to a method that has none, where its explanation leads nowhere or to a method of smaller rank; then those that wait for it
+/// are to be asked.
+pub(crate) fn rank_led(
+    grounds: &mut Vec<Ground>,
+    queues: &mut Queues,
+    place: usize,
+    round: u64,
+) -> Result<bool, NoMemory>
+    requires { round < open_rank }
     ensures length { length grounds.new.items ≡ length grounds.old.items }
-    ensures ranked { (bounds : Bounds) (P : Program) (rel : ℕ → List PathData) (A : Assignment) (overs : ℕ → List ℕ) → AreRanked bounds P rel A overs grounds.old.items (round + 1) → AreRanked bounds P rel A overs grounds.new.items (round + 1) }
-    ensures circling { (bounds : Bounds) (P : Program) (rel : ℕ → List PathData) (A : Assignment) (overs : ℕ → List ℕ) → AreCircling bounds P rel A overs grounds.old.items (round + 1) → AreCircling bounds P rel A overs grounds.new.items (round + 1) }
-    ensures same { result ≡ false → grounds.new.items ≡ grounds.old.items }
-    ensures stuck { result ≡ false → may_rank grounds.old.items round (slice_get grounds.old.items place) ≡ false }
+    ensures ranked { OnOk result ((bounds : Bounds) (P : Program) (rel : ℕ → List PathData) (A : Assignment) (overs : ℕ → List ℕ) → AreRanked bounds P rel A overs grounds.old.items (round + 1) → AreRanked bounds P rel A overs grounds.new.items (round + 1)) }
+    ensures circling { OnOk result ((bounds : Bounds) (P : Program) (rel : ℕ → List PathData) (A : Assignment) (overs : ℕ → List ℕ) → AreCircling bounds P rel A overs grounds.old.items (round + 1) → AreCircling bounds P rel A overs grounds.new.items (round + 1)) }
+    ensures same { IfOk result (λ any. any ≡ false → grounds.new.items ≡ grounds.old.items) }
+    ensures stuck { IfOk result (λ any. any ≡ false → may_rank grounds.old.items round (slice_get grounds.old.items place) ≡ false) }
 {
     if !may_rank(grounds.as_slice(), place, round) {
-        return false;
+        return Ok(false);
     }
     grounds[place].rank = round;
-    true
+    queues.wake(place)?;
+    Ok(true)
 }
 
 /// Gives this rank to all such methods.
-pub(crate) fn rank_all_led(grounds: &mut Vec<Ground>, round: u64) -> bool
+pub(crate) fn rank_all_led(
+    grounds: &mut Vec<Ground>,
+    queues: &mut Queues,
+    round: u64,
+) -> Result<bool, NoMemory>
     requires { round < open_rank }
     ensures length { length grounds.new.items ≡ length grounds.old.items }
-    ensures ranked { (bounds : Bounds) (P : Program) (rel : ℕ → List PathData) (A : Assignment) (overs : ℕ → List ℕ) → AreRanked bounds P rel A overs grounds.old.items (round + 1) → AreRanked bounds P rel A overs grounds.new.items (round + 1) }
-    ensures same { result ≡ false → grounds.new.items ≡ grounds.old.items }
-    ensures stuck { result ≡ false → (place : ℕ) → place < length grounds.old.items → may_rank grounds.old.items round (slice_get grounds.old.items place) ≡ false }
+    ensures ranked { OnOk result ((bounds : Bounds) (P : Program) (rel : ℕ → List PathData) (A : Assignment) (overs : ℕ → List ℕ) → AreRanked bounds P rel A overs grounds.old.items (round + 1) → AreRanked bounds P rel A overs grounds.new.items (round + 1)) }
+    ensures same { IfOk result (λ any. any ≡ false → grounds.new.items ≡ grounds.old.items) }
+    ensures stuck { IfOk result (λ any. any ≡ false → (place : ℕ) → place < length grounds.old.items → may_rank grounds.old.items round (slice_get grounds.old.items place) ≡ false) }
 {
     let mut any = false;
     for place in 0..grounds.len() {
-        any |= rank_led(grounds, place, round);
+        any |= rank_led(grounds, queues, place, round)?;
     }
-    any
+    Ok(any)
 }
 
 /// The ground of a method with a reason by what is known before a rank, where there is one, and it leads to a smaller rank.

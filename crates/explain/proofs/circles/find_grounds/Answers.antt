@@ -17,15 +17,15 @@ loop-round-init g c =
 pub loop-round-preserved : goal.loop-round-preserved
 loop-round-preserved g c =
     let P = program_of c.args.walk.now.program.now in let rel = rel_of c.args.walk.now.sets.now in let A = g.A.Assigned.assigned c.args.walk.now.assigned.now in let overs = row_at c.args.over.now in
-    c.rank_all_led.ensures.ranked c.args.bounds P rel A overs (more_rounds c.args.bounds P rel A overs c.loop-round.grounds.items c.loop-round.round c.loop-round.invariant)
+    c.in_ok-rank_next_led.ensures.ranked c.args.bounds P rel A overs (more_rounds c.args.bounds P rel A overs c.loop-round.grounds.items c.loop-round.round c.loop-round.invariant)
 
 pub rank_circles-requires-clause-each : goal.rank_circles-requires-clause-each
-rank_circles-requires-clause-each g c = c.rank_all_led.ensures.length ∙ c.loop-round.invariant.each
+rank_circles-requires-clause-each g c = c.rank_next_led.ensures.length ∙ c.loop-round.invariant.each
 
-pub returns-then-not-rank_all_led : goal.returns-then-not-rank_all_led
-returns-then-not-rank_all_led g c =
+pub returns-then-not-branch : goal.returns-then-not-branch
+returns-then-not-branch g c =
     let P = program_of c.args.walk.now.program.now in let rel = rel_of c.args.walk.now.sets.now in let A = g.A.Assigned.assigned c.args.walk.now.assigned.now in let overs = row_at c.args.over.now in
     IfOk-weaker c.rank_circles.result _ (λ grounds. AreAllRanked c.args.bounds P rel A overs grounds.items)
     (λ grounds all. all c.args.bounds
-    (are_circling c.args.bounds P rel A overs c.loop-round.grounds.items c.rank_all_led.new.grounds.items c.loop-round.round (c.rank_all_led.ensures.same c.if-not-rank_all_led.true) c.loop-round.invariant (c.rank_all_led.ensures.stuck c.if-not-rank_all_led.true)))
+    (are_circling c.args.bounds P rel A overs c.loop-round.grounds.items c.rank_next_led.new.grounds.items c.loop-round.round (c.in_ok-rank_next_led.ensures.same c.if-not-branch.true) c.loop-round.invariant (c.in_ok-rank_next_led.ensures.stuck c.if-not-branch.true)))
     c.rank_circles.ensures

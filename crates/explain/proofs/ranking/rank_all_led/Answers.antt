@@ -5,8 +5,8 @@ use Rattle.explain.proofs.ranking.rank_all_led.Goals as goal
 
 pub loop-place-preserved : goal.loop-place-preserved
 loop-place-preserved c =
-    passed_more c.args.round c.loop-place.place c.loop-place.any c.rank_led-any.result _ c.args.grounds.now.items c.loop-place.grounds.items c.rank_led-any.new.grounds.items c.loop-place.invariant refl
-    c.rank_led-any.ensures.length c.rank_led-any.ensures.ranked c.rank_led-any.ensures.same c.rank_led-any.ensures.stuck
+    passed_more c.args.round c.loop-place.place c.loop-place.any c.in_ok-any.field-0 _ c.args.grounds.now.items c.loop-place.grounds.items c.rank_led.new.grounds.items c.loop-place.invariant refl
+    c.rank_led.ensures.length c.in_ok-any.ensures.ranked c.in_ok-any.ensures.same c.in_ok-any.ensures.stuck
 
 pub returns-clause-stuck : goal.returns-clause-stuck
 returns-clause-stuck c =
