@@ -23,6 +23,7 @@ pub mod Taken
 pub mod TakenLaws
 pub mod Meant
 pub mod Strictly
+pub mod EntryMarks
 pub mod Closing
 -- Lemmas on ranks, by which explanations lead in no circle: one more is given (Ranked), before they are given and in a round (FirstRanks).
 pub mod Ranked

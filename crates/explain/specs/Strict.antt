@@ -22,6 +22,14 @@ is_run m (Some k) = k == m
 abbrev pub is_thread_entry : Program → ℕ → Bool
 is_thread_entry P m = (m == P.main) || list_any (λ c. is_run m c.run) P.classes
 
+-- marks of methods say of each whether a thread begins with it
+abbrev pub AreEntryMarks : Program → (marks : List Bool) → Type 0
+AreEntryMarks P marks = (m : ℕ) (mark : Bool) → slice_get marks m ≡ Some mark → mark ≡ is_thread_entry P m
+
+-- one more method, which runs for `run`, may be marked: each mark is as it was, or the method is that one
+abbrev pub AreMarkedFor : (run : Option ℕ) → (old now : List Bool) → Type 0
+AreMarkedFor run old now = (m : ℕ) (mark : Bool) → slice_get now m ≡ Some mark → (was : Bool) × (slice_get old m ≡ Some was) × (mark ≡ (was || is_run m run))
+
 -- the greatest basic that a method may have where each counts as `atomic`; one that a thread begins with may have what it declares
 abbrev pub strict_bound : Program → ℕ → Method → Basic
 strict_bound P m method = declared_bound (method.annotated || not (is_thread_entry P m))

@@ -9,6 +9,7 @@ mod assigned;
 mod causes;
 mod circles;
 mod deeds;
+mod entries;
 mod errors;
 mod explaining;
 mod final_fields;

@@ -11,9 +11,11 @@ ghost use Rattle.rules.specs.Rules.{AtMost};
 ghost use Rattle.rules.specs.Search.{row_at};
 ghost use Rattle.explain.specs.declared.ranking.Bounds.{Bounds};
 ghost use Rattle.explain.specs.Leads.{limit_for, told_limit};
+ghost use Rattle.explain.specs.Strict.{AreEntryMarks};
 ghost use Rattle.explain.specs.Ranking.{AreCircling, AreRanked, AreStuck, first_ground, first_grounds, ground_by, is_stuck_at, may_rank, open_rank};
 
 use crate::asked::{OPEN, Queues};
+use crate::entries::entry_marks;
 use crate::explaining::why_more;
 use crate::grounds::{Ground, Lowered, is_reason, leads_below, rank_at, reason_lead, why_known};
 use crate::program::keeps;
@@ -43,15 +45,17 @@ pub(crate) struct Round {
 /// The greatest basic that a method may have without being told.
 fn limit_for<A: Assigned>(
     walk: &Walk<'_, A>,
+    marks: &[bool],
     bounds: Bounds,
     id: MethodId,
     method: &CoreMethod,
 ) -> Basic
+    requires { AreEntryMarks (program_of walk.now.program.now) marks.now }
     ensures { result ≡ limit_for bounds (program_of walk.now.program.now) (A.Assigned.assigned walk.now.assigned.now) id (method_of method.now) }
 {
     match bounds {
         Bounds::Declared => told_limit(walk, id, method),
-        Bounds::Strict => strict_limit(walk, id, method),
+        Bounds::Strict => strict_limit(walk, marks, id, method),
     }
 }
 
@@ -70,13 +74,15 @@ fn told_limit<A: Assigned>(walk: &Walk<'_, A>, id: MethodId, method: &CoreMethod
 fn first_ground<A: Assigned>(
     walk: &Walk<'_, A>,
     over: &OverridingMethods,
+    marks: &[bool],
     bounds: Bounds,
     id: MethodId,
     method: &CoreMethod,
 ) -> Result<Ground, NoMemory>
+    requires { AreEntryMarks (program_of walk.now.program.now) marks.now }
     ensures { IfOk result (λ first. first ≡ first_ground (program_of walk.now.program.now) (rel_of walk.now.sets.now) (A.Assigned.assigned walk.now.assigned.now) (row_at over.now) bounds id (method_of method.now)) }
 {
-    let limit = limit_for(walk, bounds, id, method);
+    let limit = limit_for(walk, marks, bounds, id, method);
     if walk
         .assigned
         .at(id, method.requires_.as_slice())
@@ -105,9 +111,11 @@ pub(crate) fn first_grounds<A: Assigned>(
     requires { length (program_of walk.now.program.now).methods ≤ 2 ^ 32 }
     ensures { IfOk result (λ grounds. grounds.items ≡ first_grounds (program_of walk.now.program.now) (rel_of walk.now.sets.now) (A.Assigned.assigned walk.now.assigned.now) (row_at over.now) bounds) }
 {
+    let marks = entry_marks(walk.alloc, walk.program)?;
     let mut grounds = Vec::new(walk.alloc);
     for (m, method) in walk.program.methods().iter().enumerate() {
-        grounds.push(first_ground(walk, over, bounds, MethodId(m as u32), method)?)?;
+        let id = MethodId(m as u32);
+        grounds.push(first_ground(walk, over, marks.as_slice(), bounds, id, method)?)?;
     }
     Ok(grounds)
 }

@@ -2,7 +2,7 @@ use Rattle.std.proofs.Common.{◌≡◌, drop, map}
 use Rattle.std.specs.List.{list_any}
 use Rattle.core_program.specs.Views.{core_class_of}
 use Rattle.explain.specs.Strict.{is_run}
-use Rattle.explain.proofs.strict.runs.Given as goal
+use Rattle.explain.proofs.entries.runs.Given as goal
 
 -- what is said of the classes that are left is said of all
 abbrev pub invariant-loop-class : goal.invariant-loop-class
