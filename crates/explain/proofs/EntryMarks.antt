@@ -2,6 +2,7 @@
 use Rattle.std.proofs.Common.{◌≡◌, ℕ, Bool, true, false, ◌||◌, List, [], ◌∷◌, Some, slice_get, refl, sym, ap, ◌∙◌}
 use Rattle.std.specs.List.{list_any}
 use Rattle.std.proofs.Math.Bool.{or-false}
+use Rattle.std.proofs.lemmas.Option.{none-some}
 use Rattle.core_program.specs.Core.{Class, Program}
 use Rattle.explain.specs.Strict.{AreEntryMarks, AreMarkedFor, is_run, is_thread_entry}
 
@@ -22,3 +23,7 @@ marked_more P old now c rest marked before m mark is =
 -- at the end
 pub marked_all : (P : Program) (marks : List Bool) → AreMarkedBefore P marks [] → AreEntryMarks P marks
 marked_all P marks before m mark is = sym (or-false mark) ∙ before m mark is
+
+-- no marks say nothing
+pub no_marks : (P : Program) → AreEntryMarks P []
+no_marks P m mark is = absurd (none-some mark is)
