@@ -8,13 +8,14 @@ use Rattle.std.proofs.lemmas.Option.{none-some, same_Some, slice_get_within}
 use Rattle.base.proofs.Lists.{at_left, at_either, get_last, get_left, get_below, contains_cases, next_take}
 use Rattle.algebra.specs.HeldPaths.{Held, has_path}
 use Rattle.core_program.specs.Core.{Class}
+use Rattle.level_check.specs.declared.told.Callee.{Callee}
 use Rattle.level_check.specs.declared.told.Seen.{Seen}
-use Rattle.level_check.specs.Told.{ToldLevel, Calls, Wrong, told_level_of}
+use Rattle.level_check.specs.Told.{ToldLevel, Calls, Wrong, alone, told_level_of}
 use Rattle.level_check.specs.declared.link.Link.{Link}
 use Rattle.level_check.specs.Greatest.{links_at}
 use Rattle.level_check.specs.declared.cells.Cell.{Cell}
 use Rattle.level_check.specs.Cells.{set_of, Queue, IsEven, IsAt, HasCell, HasLevel, IsAdded, run_in, runs_of, AreFirstCells, AreCellLinks, AreAdded, IsLinked, Telling, AreFollowed, IsCalled, called_first, called_next, AreCalledUnder}
-use Rattle.level_check.proofs.Tells.{nothing_there, first_there, told_method, told_set, told_level, told_is_call}
+use Rattle.level_check.proofs.Tells.{nothing_there, first_there, told_callee, told_set, told_level, told_is_call}
 
 -- Both lists of a queue.
 
@@ -22,8 +23,8 @@ use Rattle.level_check.proofs.Tells.{nothing_there, first_there, told_method, to
 abbrev pub Keeps : List Cell → List Cell → Type 0
 Keeps old new = (c : ℕ) (cell : Cell) → slice_get old c ≡ Some cell → slice_get new c ≡ Some cell
 
-at_kept : (old new : List Cell) → Keeps old new → (c m : ℕ) (H : Held) → IsAt old c m H → IsAt new c m H
-at_kept old new kept c m H at = record { cell = at.cell; there = kept c at.cell at.there; of_method = at.of_method; set = at.set }
+at_kept : (old new : List Cell) → Keeps old new → (c : ℕ) (m : Callee) (H : Held) → IsAt old c m H → IsAt new c m H
+at_kept old new kept c m H at = record { cell = at.cell; there = kept c at.cell at.there; of_callee = at.of_callee; set = at.set }
 
 links_kept : (old new : List Cell) (told : List ToldLevel) (links : List Link) → Keeps old new → AreCellLinks old told links → AreCellLinks new told links
 links_kept old new told links kept are = record {
@@ -32,18 +33,18 @@ links_kept old new told links kept are = record {
 }
 
 -- what one more cell comes to
-record Longer (old : Queue) (m : ℕ) (H : Held) (level : ℕ) (new : Queue) : Type 0 where
+record Longer (old : Queue) (m : Callee) (H : Held) (level : ℕ) (new : Queue) : Type 0 where
   pub even : IsEven old → IsEven new
   pub kept : Keeps old.cells new.cells
-  pub levels : IsEven old → (c u : ℕ) (cell : Cell) → HasLevel new c cell u → HasLevel old c cell u ⊎ ((cell.method ≡ m) × (set_of cell ≡ H) × (u ≡ level))
+  pub levels : IsEven old → (c u : ℕ) (cell : Cell) → HasLevel new c cell u → HasLevel old c cell u ⊎ ((cell.callee ≡ m) × (set_of cell ≡ H) × (u ≡ level))
 
-longer : (old : Queue) (m : ℕ) (H : Held) (level at : ℕ) (new : Queue) → IsAdded old m H level at new → Longer old m H level new
+longer : (old : Queue) (m : Callee) (H : Held) (level at : ℕ) (new : Queue) → IsAdded old m H level at new → Longer old m H level new
 longer old m H level at new added = elim added.more as (λ _. Longer old m H level new) [
   | inl same ↦ subst (λ q. Longer old m H level q) (sym same) record { even = λ e. e; kept = λ c cell is. is; levels = λ e c u cell has. inl has }
   | inr more ↦ subst (λ q. Longer old m H level q) (sym more.3) (by_more more.0 more.1 more.2)
 ]
   where
-    by_more : (cell : Cell) → cell.method ≡ m → set_of cell ≡ H → Longer old m H level (record { cells = old.cells ++ cell ∷ []; levels = old.levels ++ level ∷ [] })
+    by_more : (cell : Cell) → cell.callee ≡ m → set_of cell ≡ H → Longer old m H level (record { cells = old.cells ++ cell ∷ []; levels = old.levels ++ level ∷ [] })
     by_more cell method set = record {
       even = λ e. counted (length old.levels) (length old.cells) (length (old.levels ++ level ∷ [])) (length (old.cells ++ cell ∷ [])) e (length-append old.levels (level ∷ [])) (length-append old.cells (cell ∷ []));
       kept = λ c x is. at_left old.cells (cell ∷ []) c x is;
@@ -61,12 +62,12 @@ longer old m H level at new added = elim added.more as (λ _. Longer old m H lev
         past c n j k same is below = omega (arith, same, is, below)
 
         by_place : IsEven old → (c u : ℕ) (x : Cell) → (slice_get old.cells c ≡ Some x) ⊎ ((j : ℕ) × (c ≡ length old.cells + j) × (slice_get (cell ∷ []) j ≡ Some x))
-            → (slice_get old.levels c ≡ Some u) ⊎ ((j : ℕ) × (c ≡ length old.levels + j) × (slice_get (level ∷ []) j ≡ Some u)) → HasLevel old c x u ⊎ ((x.method ≡ m) × (set_of x ≡ H) × (u ≡ level))
+            → (slice_get old.levels c ≡ Some u) ⊎ ((j : ℕ) × (c ≡ length old.levels + j) × (slice_get (level ∷ []) j ≡ Some u)) → HasLevel old c x u ⊎ ((x.callee ≡ m) × (set_of x ≡ H) × (u ≡ level))
         by_place e c u x (inl is) (inl under) = inl record { there = is; under = under }
         by_place e c u x (inl is) (inr (j, place, last)) = absurd (past c (length old.levels) j (length old.cells) (sym e) place (slice_get_within old.cells c x is))
         by_place e c u x (inr (j, place, last)) (inl under) = absurd (past c (length old.cells) j (length old.levels) e place (slice_get_within old.levels c u under))
         by_place e c u x (inr (j, place, last)) (inr (k, spot, new)) =
-            inr (sym (ap (λ (z : Cell). z.method) (one cell x j last)) ∙ method, sym (ap set_of (one cell x j last)) ∙ set, sym (one level u k new))
+            inr (sym (ap (λ (z : Cell). z.callee) (one cell x j last)) ∙ method, sym (ap set_of (one cell x j last)) ∙ set, sym (one level u k new))
 
 -- Cells where threads begin.
 
@@ -77,21 +78,21 @@ begun_none = record {
   only = λ c u cell has. absurd (none-some cell has.there);
 }
 
-begun_more : (ms : List ℕ) (old new : Queue) (m at : ℕ) → AreFirstCells ms old → IsAdded old m (λ p. false) 0 at new → AreFirstCells (ms ++ m ∷ []) new
+begun_more : (ms : List ℕ) (old new : Queue) (m at : ℕ) → AreFirstCells ms old → IsAdded old (alone m) (λ p. false) 0 at new → AreFirstCells (ms ++ m ∷ []) new
 begun_more ms old new m at begun added =
-    let l = longer old m (λ p. false) 0 at new added in
+    let l = longer old (alone m) (λ p. false) 0 at new added in
     record {
       even = l.even begun.even;
-      each = λ n has. elim (Contains-append_cases ms (m ∷ []) n has) as (λ _. HasCell new.cells n (λ p. false)) [
-        | inl before ↦ let r = begun.each n before in (r.0, at_kept old.cells new.cells l.kept r.0 n (λ p. false) r.1)
-        | inr last ↦ elim (contains_cases m n [] last) as (λ _. HasCell new.cells n (λ p. false)) [
-          | inl same ↦ subst (λ k. HasCell new.cells k (λ p. false)) same (at, added.found)
+      each = λ n has. elim (Contains-append_cases ms (m ∷ []) n has) as (λ _. HasCell new.cells (alone n) (λ p. false)) [
+        | inl before ↦ let r = begun.each n before in (r.0, at_kept old.cells new.cells l.kept r.0 (alone n) (λ p. false) r.1)
+        | inr last ↦ elim (contains_cases m n [] last) as (λ _. HasCell new.cells (alone n) (λ p. false)) [
+          | inl same ↦ subst (λ k. HasCell new.cells (alone k) (λ p. false)) same (at, added.found)
           | inr none ↦ absurd (nothing_there n none)
         ]
       ];
-      only = λ c u cell has. elim (l.levels begun.even c u cell has) as (λ _. Contains (ms ++ m ∷ []) cell.method × (set_of cell ≡ λ p. false) × (u ≡ 0)) [
-        | inl before ↦ let r = begun.only c u cell before in (Contains-append_left ms (m ∷ []) cell.method r.0, r.1, r.2)
-        | inr one ↦ (Contains-append_right ms (m ∷ []) cell.method (subst (λ k. Contains (m ∷ []) k) (sym one.0) (first_there m [])), one.1, one.2)
+      only = λ c u cell has. elim (l.levels begun.even c u cell has) as (λ _. (n : ℕ) × Contains (ms ++ m ∷ []) n × (cell.callee ≡ alone n) × (set_of cell ≡ λ p. false) × (u ≡ 0)) [
+        | inl before ↦ let r = begun.only c u cell before in (r.0, Contains-append_left ms (m ∷ []) r.0 r.1, r.2, r.3, r.4)
+        | inr one ↦ (m, Contains-append_right ms (m ∷ []) m (first_there m []), one.0, one.1, one.2)
       ];
     }
 
@@ -112,11 +113,11 @@ added_wrong told from old now links p c u added = record {
   kept = added.kept;
   linked = record {
     each = λ m H w has. added.linked.each m H w (before (Calls m H w) refl has);
-    only = λ link has. let r = added.linked.only link has in (r.0, r.1, Contains-append_left told (Wrong p c u ∷ []) (Calls r.0.method (set_of r.0) link.level) r.2);
+    only = λ link has. let r = added.linked.only link has in (r.0, r.1, Contains-append_left told (Wrong p c u ∷ []) (Calls r.0.callee (set_of r.0) link.level) r.2);
   };
-  levels = λ d v cell has. elim (added.levels d v cell has) as (λ _. HasLevel old d cell v ⊎ ((w : ℕ) × Contains (told ++ Wrong p c u ∷ []) (Calls cell.method (set_of cell) w) × (v ≡ max from w))) [
+  levels = λ d v cell has. elim (added.levels d v cell has) as (λ _. HasLevel old d cell v ⊎ ((w : ℕ) × Contains (told ++ Wrong p c u ∷ []) (Calls cell.callee (set_of cell) w) × (v ≡ max from w))) [
     | inl first ↦ inl first
-    | inr call ↦ inr (call.0, Contains-append_left told (Wrong p c u ∷ []) (Calls cell.method (set_of cell) call.0) call.1, call.2)
+    | inr call ↦ inr (call.0, Contains-append_left told (Wrong p c u ∷ []) (Calls cell.callee (set_of cell) call.0) call.1, call.2)
   ];
 }
   where
@@ -129,7 +130,7 @@ added_wrong told from old now links p c u added = record {
       ]
     ]
 
-added_call : (told : List ToldLevel) (from : ℕ) (old now new : Queue) (links : List Link) (k : ℕ) (K : Held) (w to : ℕ) (link : Link) → link.to ≡ to → link.level ≡ w → AreAdded told from old now links → IsAdded now k K (max from w) to new
+added_call : (told : List ToldLevel) (from : ℕ) (old now new : Queue) (links : List Link) (k : Callee) (K : Held) (w to : ℕ) (link : Link) → link.to ≡ to → link.level ≡ w → AreAdded told from old now links → IsAdded now k K (max from w) to new
     → AreAdded (told ++ Calls k K w ∷ []) from old new (links ++ link ∷ [])
 added_call told from old now new links k K w to link leads level added more =
     let l = longer now k K (max from w) to new more in
@@ -144,29 +145,29 @@ added_call told from old now new links k K w to link leads level added more =
               link,
               Contains-append_right links (link ∷ []) link (first_there link []),
               level ∙ ap told_level same,
-              subst (λ n. IsAt new.cells n m H) (sym leads) (record { cell = more.found.cell; there = more.found.there; of_method = more.found.of_method ∙ ap told_method same; set = more.found.set ∙ ap told_set same }),
+              subst (λ n. IsAt new.cells n m H) (sym leads) (record { cell = more.found.cell; there = more.found.there; of_callee = more.found.of_callee ∙ ap told_callee same; set = more.found.set ∙ ap told_set same }),
             )
             | inr none ↦ absurd (nothing_there _ none)
           ]
         ];
-        only = λ z has. elim (Contains-append_cases links (link ∷ []) z has) as (λ _. (cell : Cell) × (slice_get new.cells z.to ≡ Some cell) × Contains (told ++ Calls k K w ∷ []) (Calls cell.method (set_of cell) z.level)) [
-          | inl before ↦ let r = added.linked.only z before in (r.0, l.kept z.to r.0 r.1, Contains-append_left told (Calls k K w ∷ []) (Calls r.0.method (set_of r.0) z.level) r.2)
-          | inr last ↦ elim (contains_cases link z [] last) as (λ _. (cell : Cell) × (slice_get new.cells z.to ≡ Some cell) × Contains (told ++ Calls k K w ∷ []) (Calls cell.method (set_of cell) z.level)) [
-            | inl same ↦ subst (λ (y : Link). (cell : Cell) × (slice_get new.cells y.to ≡ Some cell) × Contains (told ++ Calls k K w ∷ []) (Calls cell.method (set_of cell) y.level)) same (
+        only = λ z has. elim (Contains-append_cases links (link ∷ []) z has) as (λ _. (cell : Cell) × (slice_get new.cells z.to ≡ Some cell) × Contains (told ++ Calls k K w ∷ []) (Calls cell.callee (set_of cell) z.level)) [
+          | inl before ↦ let r = added.linked.only z before in (r.0, l.kept z.to r.0 r.1, Contains-append_left told (Calls k K w ∷ []) (Calls r.0.callee (set_of r.0) z.level) r.2)
+          | inr last ↦ elim (contains_cases link z [] last) as (λ _. (cell : Cell) × (slice_get new.cells z.to ≡ Some cell) × Contains (told ++ Calls k K w ∷ []) (Calls cell.callee (set_of cell) z.level)) [
+            | inl same ↦ subst (λ (y : Link). (cell : Cell) × (slice_get new.cells y.to ≡ Some cell) × Contains (told ++ Calls k K w ∷ []) (Calls cell.callee (set_of cell) y.level)) same (
               more.found.cell,
               ap (slice_get new.cells) leads ∙ more.found.there,
-              Contains-append_right told (Calls k K w ∷ []) (Calls more.found.cell.method (set_of more.found.cell) link.level) (0, omega arith, λ i. Calls (sym more.found.of_method i) (sym more.found.set i) (sym level i)),
+              Contains-append_right told (Calls k K w ∷ []) (Calls more.found.cell.callee (set_of more.found.cell) link.level) (0, omega arith, λ i. Calls (sym more.found.of_callee i) (sym more.found.set i) (sym level i)),
             )
             | inr none ↦ absurd (nothing_there z none)
           ]
         ];
       };
-      levels = λ c u cell has. elim (l.levels added.even c u cell has) as (λ _. HasLevel old c cell u ⊎ ((v : ℕ) × Contains (told ++ Calls k K w ∷ []) (Calls cell.method (set_of cell) v) × (u ≡ max from v))) [
-        | inl before ↦ elim (added.levels c u cell before) as (λ _. HasLevel old c cell u ⊎ ((v : ℕ) × Contains (told ++ Calls k K w ∷ []) (Calls cell.method (set_of cell) v) × (u ≡ max from v))) [
+      levels = λ c u cell has. elim (l.levels added.even c u cell has) as (λ _. HasLevel old c cell u ⊎ ((v : ℕ) × Contains (told ++ Calls k K w ∷ []) (Calls cell.callee (set_of cell) v) × (u ≡ max from v))) [
+        | inl before ↦ elim (added.levels c u cell before) as (λ _. HasLevel old c cell u ⊎ ((v : ℕ) × Contains (told ++ Calls k K w ∷ []) (Calls cell.callee (set_of cell) v) × (u ≡ max from v))) [
           | inl first ↦ inl first
-          | inr call ↦ inr (call.0, Contains-append_left told (Calls k K w ∷ []) (Calls cell.method (set_of cell) call.0) call.1, call.2)
+          | inr call ↦ inr (call.0, Contains-append_left told (Calls k K w ∷ []) (Calls cell.callee (set_of cell) call.0) call.1, call.2)
         ]
-        | inr one ↦ inr (w, Contains-append_right told (Calls k K w ∷ []) (Calls cell.method (set_of cell) w) (0, omega arith, λ i. Calls (sym one.0 i) (sym one.1 i) w), one.2)
+        | inr one ↦ inr (w, Contains-append_right told (Calls k K w ∷ []) (Calls cell.callee (set_of cell) w) (0, omega arith, λ i. Calls (sym one.0 i) (sym one.1 i) w), one.2)
       ];
     }
 
@@ -204,21 +205,21 @@ reached_more tell start old new rows row at reached is below followed = by_cell 
         record {
           even = added.even;
           kept = λ c x own. added.kept c x (reached.kept c x own);
-          levels = λ c v x has. elim (added.levels c v x has) as (λ _. IsCalled tell start x.method (set_of x) v) [
+          levels = λ c v x has. elim (added.levels c v x has) as (λ _. IsCalled tell start x.callee (set_of x) v) [
             | inl before ↦ reached.levels c v x before
-            | inr call ↦ subst (λ k. IsCalled tell start x.method (set_of x) k) (sym call.2) (called_next x.method (set_of x) call.0 (reached.levels at u cell (record { there = there; under = under })) call.1)
+            | inr call ↦ subst (λ k. IsCalled tell start x.callee (set_of x) k) (sym call.2) (called_next x.callee (set_of x) call.0 (reached.levels at u cell (record { there = there; under = under })) call.1)
           ];
           within = still_within at (length rows) (length (rows ++ row ∷ [])) (length new.cells) (length new.levels) is (length-append rows (row ∷ [])) (slice_get_within new.cells at cell (added.kept at cell there)) added.even;
-          links = λ c x less own. elim (here_or_before c (length (rows ++ row ∷ [])) (length rows) (length-append rows (row ∷ [])) less) as (λ _. AreCellLinks new.cells (tell x.method (set_of x) 0) (links_at (rows ++ row ∷ []) c)) [
+          links = λ c x less own. elim (here_or_before c (length (rows ++ row ∷ [])) (length rows) (length-append rows (row ∷ [])) less) as (λ _. AreCellLinks new.cells (tell x.callee (set_of x) 0) (links_at (rows ++ row ∷ []) c)) [
             | inl earlier ↦
                 let older = get_below old.cells c (within c earlier) in
                 let same : older.0 ≡ x = same_Some older.0 x (sym (added.kept c older.0 older.1) ∙ own) in
-                let are = links_kept old.cells new.cells (tell older.0.method (set_of older.0) 0) (links_at rows c) added.kept (reached.links c older.0 earlier older.1) in
-                subst (λ ls. AreCellLinks new.cells (tell x.method (set_of x) 0) ls) (sym (links_left rows row c earlier)) (subst (λ (z : Cell). AreCellLinks new.cells (tell z.method (set_of z) 0) (links_at rows c)) same are)
+                let are = links_kept old.cells new.cells (tell older.0.callee (set_of older.0) 0) (links_at rows c) added.kept (reached.links c older.0 earlier older.1) in
+                subst (λ ls. AreCellLinks new.cells (tell x.callee (set_of x) 0) ls) (sym (links_left rows row c earlier)) (subst (λ (z : Cell). AreCellLinks new.cells (tell z.callee (set_of z) 0) (links_at rows c)) same are)
             | inr last ↦
                 let same : cell ≡ x = same_Some cell x (sym (added.kept at cell there) ∙ ap (slice_get new.cells) (is ∙ sym last) ∙ own) in
                 let ends : row ≡ links_at (rows ++ row ∷ []) c = sym (links_last rows row) ∙ ap (links_at (rows ++ row ∷ [])) (sym last) in
-                subst (λ ls. AreCellLinks new.cells (tell x.method (set_of x) 0) ls) ends (subst (λ (z : Cell). AreCellLinks new.cells (tell z.method (set_of z) 0) row) same added.linked)
+                subst (λ ls. AreCellLinks new.cells (tell x.callee (set_of x) 0) ls) ends (subst (λ (z : Cell). AreCellLinks new.cells (tell z.callee (set_of z) 0) row) same added.linked)
           ];
         }
       where
@@ -257,11 +258,11 @@ runs_to (x ∷ cs) m (suc c) class is run = Contains-append_right (run_in x.run)
 pub begun_start : (ms : List ℕ) (q : Queue) → q ≡ record { cells = []; levels = [] } → AreFirstCells (take 0 ms) q
 begun_start ms q is = subst (λ z. AreFirstCells [] z) (sym is) begun_none
 
-pub begun_step : (ms : List ℕ) (i m : ℕ) (old new : Queue) (cell : Cell) (level at : ℕ) → i < length ms → m ≡ get_or ms i m → cell.method ≡ m → cell.held.items ≡ [] → level ≡ 0 → AreFirstCells (take i ms) old → IsAdded old cell.method (set_of cell) level at new
+pub begun_step : (ms : List ℕ) (i m : ℕ) (old new : Queue) (cell : Cell) (level at : ℕ) → i < length ms → m ≡ get_or ms i m → cell.callee ≡ alone m → cell.held.items ≡ [] → level ≡ 0 → AreFirstCells (take i ms) old → IsAdded old cell.callee (set_of cell) level at new
     → AreFirstCells (take (i + 1) ms) new
 begun_step ms i m old new cell level at below is method held zero_level begun added =
     subst (λ ns. AreFirstCells ns new) (sym (next_take ms i m below is)) (begun_more (take i ms) old new m at begun
-    (subst (λ n. IsAdded old n (λ p. false) 0 at new) method (subst (λ ps. IsAdded old cell.method (has_path ps) 0 at new) held (subst (λ n. IsAdded old cell.method (set_of cell) n at new) zero_level added))))
+    (subst (λ n. IsAdded old n (λ p. false) 0 at new) method (subst (λ ps. IsAdded old cell.callee (has_path ps) 0 at new) held (subst (λ n. IsAdded old cell.callee (set_of cell) n at new) zero_level added))))
 
 pub begun_all : (ms : List ℕ) (i : ℕ) (q : Queue) → length ms ≤ i → AreFirstCells (take i ms) q → AreFirstCells ms q
 begun_all ms i q end begun = subst (λ xs. AreFirstCells xs q) (take_all i ms end) begun

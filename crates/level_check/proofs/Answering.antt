@@ -1,29 +1,34 @@
 -- The cells that are followed, with their greatest levels, tell whether a program is ordered, and the first bad one.
-use Rattle.std.proofs.Common.{◌≡◌, ◌⊎◌, inl, inr, ◌<◌, ◌≤◌, ℕ, zero, suc, false, List, [], ◌∷◌, length, Some, None, Result, Ok, Err, slice_get, refl, sym, ◌∙◌, ap, subst, arith}
+use Rattle.std.proofs.Common.{◌≡◌, ◌⊎◌, inl, inr, ◌<◌, ◌≤◌, ◌==◌, ℕ, zero, suc, Bool, true, false, List, [], ◌∷◌, length, map, Some, None, Result, Ok, Err, slice_get, refl, sym, ◌∙◌, ap, subst, arith, if◌then◌else◌}
 use Rattle.std.specs.Prelude.{Option, Contains, max, IfOk, MatchOption}
+use Rattle.std.proofs.lemmas.Bool.{eqb-true}
 use Rattle.std.proofs.lemmas.Option.{none-some, same_Some, slice_get_within}
 use Rattle.std.proofs.Math.Nat.{le_trans}
 use Rattle.base.proofs.Lists.{get_below, contains_cases, contains_later}
 use Rattle.paths.specs.Paths.{PathData}
-use Rattle.algebra.specs.HeldPaths.{Held}
+use Rattle.algebra.specs.HeldPaths.{Held, has_path}
 use Rattle.core_program.specs.Core.{Program, Method}
-use Rattle.rules.specs.Overriding.{AreOverriders}
+use Rattle.rules.specs.Nearest.{LeadTo, near, further, AreNearest}
+use Rattle.rules.specs.Rules.{held_in}
 use Rattle.rules.specs.Search.{row_at}
 use Rattle.levels.specs.Walks.{Comes, Bad, body_visits}
 use Rattle.levels.specs.Contexts.{MayRun, Context, at_main, at_start, at_call, IsBadAt, IsOrdered, IsFirstBad}
 use Rattle.levels.proofs.GreatestLevels.{AreGreatest as AreAllGreatest, told_bad as bad_above, told_ordered}
-use Rattle.level_check.specs.Told.{Calls, Wrong, told}
+use Rattle.level_check.specs.declared.told.Callee.{Callee}
+use Rattle.level_check.specs.Told.{Calls, Wrong, alone, any_of, known_to, tell_call}
+use Rattle.level_check.specs.Origins.{AreOrigins}
 use Rattle.level_check.specs.declared.link.Link.{Link}
 use Rattle.level_check.specs.Greatest.{links_at, ReachedUnder, at_start as from_start, over_link, AreGreatest}
 use Rattle.level_check.specs.declared.cells.Cell.{Cell}
 use Rattle.level_check.specs.declared.bad.Bad.{Bad as BadOne}
 use Rattle.level_check.specs.declared.end.LevelEnd.{LevelEnd}
 use Rattle.level_check.specs.declared.end.LevelEnd.TheVariants as ends
-use Rattle.level_check.specs.Bodies.{body_told}
+use Rattle.level_check.specs.Bodies.{body_told, spread_told, callee_told}
 use Rattle.level_check.specs.Cells.{set_of, Queue, IsAt, HasCell, HasLevel, runs_of, AreFirstCells, Telling, IsCalled, called_first, called_next, AreAllFollowed}
 use Rattle.level_check.specs.Bad.{firsts, all_bads}
 use Rattle.level_check.proofs.Shifts.{body_shifts}
-use Rattle.level_check.proofs.Tells.{nothing_there, first_there, told_call, call_told, bad_told, told_bad, told_body, Runs}
+use Rattle.level_check.proofs.Named.{of_set, body_named, all_known, own_known, led_known}
+use Rattle.level_check.proofs.Tells.{nothing_there, first_there, mapped_from, mapped_to, told_callee, told_set, told_level, told_is_call, told_call, visit_told, told_bad, told_body}
 use Rattle.level_check.proofs.Adding.{runs_from, runs_to}
 use Rattle.level_check.proofs.FirstLemmas.{firsts_none, firsts_some, bad_in_all, all_in_bad, method_later, place_later, level_lower}
 
@@ -33,104 +38,225 @@ links_there [] c link has = absurd (nothing_there link has)
 links_there (row ∷ rows) zero link has = omega arith
 links_there (row ∷ rows) (suc c) link has = let r = links_there rows c link has in omega (arith, r)
 
-module _ (P : Program) (rel : ℕ → List PathData) (level : ℕ → ℕ) (over : List (List ℕ)) (exact : AreOverriders P over) where
-  -- what walks tell
+module _ (P : Program) (rel : ℕ → List PathData) (level : ℕ → ℕ) (rows : List (List ℕ)) (origins : List ℕ) (nearest : AreNearest P rows) (exact : AreOrigins rel (row_at rows) origins)
+    (led : (m k : ℕ) → LeadTo rows m k → MayRun P k m) where
+  -- what is told of callees
   abbrev pub tell : Telling
-  tell m H u = body_told P rel level (row_at over) (slice_get P.methods m) H u
+  tell = callee_told P rel level (row_at rows) origins
 
-  may_run : (k callee : ℕ) → Runs (row_at over) k callee → MayRun P k callee
-  may_run k callee (inl same) = inl same
-  may_run k callee (inr has) = inr ((exact callee k).0 has)
+  -- the method itself, or one that the rows lead to
+  abbrev IsUnder : ℕ → ℕ → Type 0
+  IsUnder m k = (k ≡ m) ⊎ LeadTo rows m k
 
-  runs : (k callee : ℕ) → MayRun P k callee → Runs (row_at over) k callee
-  runs k callee (inl same) = inl same
-  runs k callee (inr overrides) = inr ((exact callee k).1 overrides)
+  may_run : (m k : ℕ) → IsUnder m k → MayRun P k m
+  may_run m k (inl same) = inl same
+  may_run m k (inr leads) = led m k leads
 
-  -- what the walk of a context calls is a context
-  call_context : (m : ℕ) (H : Held) (u k : ℕ) (K : Held) (w : ℕ) → Context P rel level m H u → Contains (tell m H 0) (Calls k K w) → Context P rel level k K (max u w)
-  call_context m H u k K w context has =
-      let body = told_body (row_at over) P rel level (slice_get P.methods m) H 0 (Calls k K w) has in
-      let call = told_call (row_at over) (body_visits P rel level body.0 H 0) k K w body.2 in
-      let later = (body_shifts u P rel level body.0 H).up call.callee call.known w call.visit in
-      subst (λ S. Context P rel level k S (max u w)) call.set (at_call body.0 call.callee call.known (max u w) context body.1 later (may_run k call.callee call.runs))
+  is_under : (m k : ℕ) → MayRun P k m → IsUnder m k
+  is_under m k (inl same) = inl same
+  is_under m k (inr over) = inr (nearest.lead m k over)
 
-  -- a call of a walk is told by the walk from level 0
-  call_is_told : (m : ℕ) (H : Held) (u : ℕ) (method : Method) (callee : ℕ) (known : ℕ → Held) (later k : ℕ) → slice_get P.methods m ≡ Some method → Contains (body_visits P rel level method H u) (Comes callee known later) → MayRun P k callee
-      → (w : ℕ) × (later ≡ max u w) × Contains (tell m H 0) (Calls k (known k) w)
-  call_is_told m H u method callee known later k is has run =
-      let low = (body_shifts u P rel level method H).down callee known later has in
-      (low.0, low.1, subst (λ o. Contains (body_told P rel level (row_at over) o H 0) (Calls k (known k) low.0)) (sym is) (call_told (row_at over) (body_visits P rel level method H 0) callee known low.0 k low.2 (runs k callee run)))
+  lead_on : (m k : ℕ) → Contains (row_at rows m) k → (j : ℕ) → LeadTo rows k j → LeadTo rows m j
+  lead_on m k first j (near has) = further k (near first) has
+  lead_on m k first j (further middle leads has) = further middle (lead_on m k first middle leads) has
+
+  under_next : (m k : ℕ) → Contains (row_at rows m) k → (j : ℕ) → IsUnder k j → LeadTo rows m j
+  under_next m k first j (inl same) = subst (λ z. LeadTo rows m z) (sym same) (near first)
+  under_next m k first j (inr leads) = lead_on m k first j leads
+
+  not_empty : (m k : ℕ) → LeadTo rows m k → (length (row_at rows m) == 0) ≡ true → ⊥
+  not_empty m k (near (i, below, at)) none = let e = eqb-true (length (row_at rows m)) 0 none in omega (arith, below, e)
+  not_empty m k (further middle leads has) none = not_empty m middle leads none
+
+  -- what a callee and the origins know together is what each that may run knows
+  known_under : (callee : ℕ) (known : ℕ → Held) → (S : Held) × (known ≡ of_set rel S) → (k : ℕ) → IsUnder callee k → held_in (rel k) (known_to (callee ∷ origins) known) ≡ known k
+  known_under callee known (S, is) k run = subst (λ f. held_in (rel k) (known_to (callee ∷ origins) f) ≡ f k) (sym is) (all_known rel (callee ∷ origins) k S (by_run run))
+    where
+      by_run : IsUnder callee k → (p : PathData) → has_path (rel k) p ≡ true → known_to (callee ∷ origins) (λ j. has_path (rel j)) p ≡ true
+      by_run (inl same) p own = own_known rel rows origins exact callee p (subst (λ z. has_path (rel z) p ≡ true) same own)
+      by_run (inr leads) p own = led_known rel rows origins exact callee k leads p own
+
+  -- the contexts of a callee: that of the method alone, or one of each that may run, with what it knows of the set
+  abbrev AreContexts : Bool → ℕ → Held → ℕ → Type 0
+  AreContexts true m H u = Context P rel level m H u
+  AreContexts false m H u = (k : ℕ) → IsUnder m k → Context P rel level k (held_in (rel k) H) u
+
+  abbrev HasContexts : Callee → Held → ℕ → Type 0
+  HasContexts c H u = AreContexts c.alone c.method H u
+
+  -- what the walk of a context calls has contexts
+  arrives : (m : ℕ) (H : Held) (u : ℕ) (method : Method) (callee : ℕ) (known : ℕ → Held) (w : ℕ) (c : Callee) (K : Held) → Context P rel level m H u → slice_get P.methods m ≡ Some method
+      → Contains (body_visits P rel level method H 0) (Comes callee known w) → tell_call (row_at rows) origins callee known w ≡ Calls c K w → HasContexts c K (max u w)
+  arrives m H u method callee known w c K context is visit tells = by_row (length (row_at rows callee) == 0) tells
+    where
+      later : Contains (body_visits P rel level method H u) (Comes callee known (max u w))
+      later = (body_shifts u P rel level method H).up callee known w visit
+
+      each : (k : ℕ) → IsUnder callee k → Context P rel level k (held_in (rel k) (known_to (callee ∷ origins) known)) (max u w)
+      each k run =
+          subst (λ S. Context P rel level k S (max u w)) (sym (known_under callee known (body_named P rel level method H 0 callee known w visit) k run))
+          (at_call method callee known (max u w) context is later (may_run callee k run))
+
+      by_row : (b : Bool) → (if b then Calls (alone callee) (known callee) w else Calls (any_of callee) (known_to (callee ∷ origins) known) w) ≡ Calls c K w → HasContexts c K (max u w)
+      by_row true same =
+          subst (λ z. HasContexts z K (max u w)) (ap told_callee same) (subst (λ S. Context P rel level callee S (max u w)) (ap told_set same) (at_call method callee known (max u w) context is later (inl refl)))
+      by_row false same = subst (λ z. HasContexts z K (max u w)) (ap told_callee same) (subst (λ S. AreContexts false callee S (max u w)) (ap told_set same) each)
+
+  from_level : (u w : ℕ) → 0 ≡ w → u ≡ max u w
+  from_level u w is = omega (arith, is)
+
+  -- so has what is told of a callee that has contexts
+  told_contexts : (b : Bool) (m : ℕ) (H : Held) (u : ℕ) (c : Callee) (K : Held) (w : ℕ) → AreContexts b m H u → Contains (tell (record { method = m; alone = b }) H 0) (Calls c K w) → HasContexts c K (max u w)
+  told_contexts true m H u c K w context has =
+      let body = told_body (row_at rows) origins P rel level (slice_get P.methods m) H 0 (Calls c K w) has in
+      let call = told_call (row_at rows) origins (body_visits P rel level body.0 H 0) c K w body.2 in
+      arrives m H u body.0 call.callee call.known w c K context body.1 call.visit call.tells
+  told_contexts false m H u c K w each has = elim (contains_cases (Calls (alone m) (held_in (rel m) H) 0) (Calls c K w) (map (λ k. Calls (any_of k) H 0) (row_at rows m)) has) as (λ _. HasContexts c K (max u w)) [
+    | inl same ↦
+        subst (λ n. HasContexts c K n) (from_level u w (ap told_level same))
+        (subst (λ z. HasContexts z K u) (ap told_callee same) (subst (λ S. Context P rel level m S u) (ap told_set same) (each m (inl refl))))
+    | inr later ↦
+        let r = mapped_from (λ k. Calls (any_of k) H 0) (row_at rows m) (Calls c K w) later in
+        subst (λ n. HasContexts c K n) (from_level u w (ap told_level r.2))
+        (subst (λ z. HasContexts z K u) (ap told_callee r.2) (subst (λ S. AreContexts false r.0 S u) (ap told_set r.2) (λ j run. each j (inr (under_next m r.0 r.1 j run)))))
+  ]
+
+  -- nothing bad is told of any that may run
+  none_wrong : (m : ℕ) (H : Held) (p c u : ℕ) → Contains (spread_told rel (row_at rows) m H) (Wrong p c u) → ⊥
+  none_wrong m H p c u has = elim (contains_cases (Calls (alone m) (held_in (rel m) H) 0) (Wrong p c u) (map (λ k. Calls (any_of k) H 0) (row_at rows m)) has) as (λ _. ⊥) [
+    | inl same ↦ absurd (let e : true ≡ false = ap told_is_call same in cc)
+    | inr later ↦ let r = mapped_from (λ k. Calls (any_of k) H 0) (row_at rows m) (Wrong p c u) later in absurd (let e : true ≡ false = ap told_is_call r.2 in cc)
+  ]
 
   module _ (start : Queue) (begun : AreFirstCells (P.main ∷ runs_of P.classes) start) where
-    first_context : (c u : ℕ) (cell : Cell) → HasLevel start c cell u → Context P rel level cell.method (set_of cell) u
-    first_context c u cell has =
+    first_contexts : (c u : ℕ) (cell : Cell) → HasLevel start c cell u → HasContexts cell.callee (set_of cell) u
+    first_contexts c u cell has =
         let r = begun.only c u cell has in
-        subst (λ n. Context P rel level cell.method (set_of cell) n) (sym r.2) (subst (λ S. Context P rel level cell.method S 0) (sym r.1) (by_method cell.method (contains_cases P.main cell.method (runs_of P.classes) r.0)))
+        subst (λ z. HasContexts z (set_of cell) u) (sym r.2)
+        (subst (λ n. Context P rel level r.0 (set_of cell) n) (sym r.4) (subst (λ S. Context P rel level r.0 S 0) (sym r.3) (by_method r.0 (contains_cases P.main r.0 (runs_of P.classes) r.1))))
       where
         by_method : (m : ℕ) → (P.main ≡ m) ⊎ Contains (runs_of P.classes) m → Context P rel level m (λ q. false) 0
         by_method m (inl same) = subst (λ n. Context P rel level n (λ q. false) 0) same at_main
         by_method m (inr run) = at_start (runs_from P.classes m run)
 
-    -- what is called is a context
-    called_context : (m : ℕ) (H : Held) (u : ℕ) → IsCalled tell start m H u → Context P rel level m H u
-    called_context m H u (called_first {c = c} {u = n} cell has) = first_context c n cell has
-    called_context m H u (called_next {m = n} {u = v} {H = S} k K w before has) = call_context n S v k K w (called_context n S v before) has
+    -- what is called has contexts
+    called_contexts : (c : Callee) (H : Held) (u : ℕ) → IsCalled tell start c H u → HasContexts c H u
+    called_contexts c H u (called_first {c = n} {u = v} cell has) = first_contexts n v cell has
+    called_contexts c H u (called_next {m = n} {u = v} {H = S} k K w before has) = told_contexts n.alone n.method S v k K w (called_contexts n S v before) has
 
-    module _ (q : Queue) (rows : List (List Link)) (followed : AreAllFollowed tell start q rows) (x : List ℕ) (greatest : AreGreatest rows q.levels x) where
+    module _ (q : Queue) (rows_of_links : List (List Link)) (followed : AreAllFollowed tell start q rows_of_links) (x : List ℕ) (greatest : AreGreatest rows_of_links q.levels x) where
       -- a cell is called under each level that is reached over links
-      reached_called : (c u : ℕ) (cell : Cell) → slice_get q.cells c ≡ Some cell → ReachedUnder rows q.levels c u → IsCalled tell start cell.method (set_of cell) u
+      reached_called : (c u : ℕ) (cell : Cell) → slice_get q.cells c ≡ Some cell → ReachedUnder rows_of_links q.levels c u → IsCalled tell start cell.callee (set_of cell) u
       reached_called c u cell is (from_start under) = followed.reached.levels c u cell (record { there = is; under = under })
       reached_called c u cell is (over_link {c = d} {u = v} link before has) =
-          let inside = links_there rows d link has in
-          let caller = get_below q.cells d (within d (length rows) (length q.levels) (length q.cells) inside followed.all followed.reached.even) in
+          let inside = links_there rows_of_links d link has in
+          let caller = get_below q.cells d (within d (length rows_of_links) (length q.levels) (length q.cells) inside followed.all followed.reached.even) in
           let own = reached_called d v caller.0 caller.1 before in
           let call = (followed.reached.links d caller.0 inside caller.1).only link has in
           let same : call.0 ≡ cell = same_Some call.0 cell (sym call.1 ∙ is) in
-          subst (λ (z : Cell). IsCalled tell start z.method (set_of z) (max v link.level)) same (called_next call.0.method (set_of call.0) link.level own call.2)
+          subst (λ (z : Cell). IsCalled tell start z.callee (set_of z) (max v link.level)) same (called_next call.0.callee (set_of call.0) link.level own call.2)
         where
           within : (d r l k : ℕ) → d < r → r ≡ l → l ≡ k → d < k
           within d r l k one two three = omega (arith, one, two, three)
 
-      -- a cell is this method with this set, and its greatest level is this one
+      -- a cell is of this callee with this set, and its greatest level is this one
+      abbrev IsUp : Callee → Held → ℕ → Type 0
+      IsUp n H u = (c : ℕ) × IsAt q.cells c n H × (slice_get x c ≡ Some u)
+
       abbrev G : ℕ → Held → ℕ → Type 0
-      G m H u = (c : ℕ) × IsAt q.cells c m H × (slice_get x c ≡ Some u)
+      G m H u = IsUp (alone m) H u
 
       g_context : (m : ℕ) (H : Held) (u : ℕ) → G m H u → Context P rel level m H u
       g_context m H u (c, at, under) =
-          subst (λ n. Context P rel level n H u) at.of_method (subst (λ S. Context P rel level at.cell.method S u) at.set
-          (called_context at.cell.method (set_of at.cell) u (reached_called c u at.cell at.there (greatest.reached c u under))))
+          subst (λ z. HasContexts z H u) at.of_callee (subst (λ S. HasContexts at.cell.callee S u) at.set
+          (called_contexts at.cell.callee (set_of at.cell) u (reached_called c u at.cell at.there (greatest.reached c u under))))
 
       -- each cell has a greatest level
-      levelled : (c m : ℕ) (H : Held) → IsAt q.cells c m H → (v : ℕ) × (slice_get x c ≡ Some v)
-      levelled c m H at = get_below x c (within c (length q.cells) (length q.levels) (length x) (slice_get_within q.cells c at.cell at.there) followed.reached.even greatest.count)
+      levelled : (c : ℕ) (n : Callee) (H : Held) → IsAt q.cells c n H → (v : ℕ) × (slice_get x c ≡ Some v)
+      levelled c n H at = get_below x c (within c (length q.cells) (length q.levels) (length x) (slice_get_within q.cells c at.cell at.there) followed.reached.even greatest.count)
         where
           within : (c k l n : ℕ) → c < k → l ≡ k → n ≡ l → c < n
           within c k l n one two three = omega (arith, one, two, three)
 
-      g_cell : (m : ℕ) (H : Held) → HasCell q.cells m H → (v : ℕ) × G m H v
-      g_cell m H (c, at) = let v = levelled c m H at in (v.0, (c, at, v.1))
+      g_cell : (m : ℕ) (H : Held) → HasCell q.cells (alone m) H → (v : ℕ) × G m H v
+      g_cell m H (c, at) = let v = levelled c (alone m) H at in (v.0, (c, at, v.1))
 
-      begun_cell : (m : ℕ) → Contains (P.main ∷ runs_of P.classes) m → HasCell q.cells m (λ p. false)
-      begun_cell m has = let r = begun.each m has in (r.0, record { cell = r.1.cell; there = followed.reached.kept r.0 r.1.cell r.1.there; of_method = r.1.of_method; set = r.1.set })
+      begun_cell : (m : ℕ) → Contains (P.main ∷ runs_of P.classes) m → HasCell q.cells (alone m) (λ p. false)
+      begun_cell m has = let r = begun.each m has in (r.0, record { cell = r.1.cell; there = followed.reached.kept r.0 r.1.cell r.1.there; of_callee = r.1.of_callee; set = r.1.set })
 
-      g_call : (m : ℕ) (H : Held) (u : ℕ) (method : Method) → G m H u → slice_get P.methods m ≡ Some method → (callee : ℕ) (known : ℕ → Held) (later : ℕ) → Contains (body_visits P rel level method H u) (Comes callee known later)
-          → (k : ℕ) → MayRun P k callee → (v : ℕ) × (later ≤ v) × G k (known k) v
-      g_call m H u method (c, at, under) is callee known later has k run =
-          let call = call_is_told m H u method callee known later k is has run in
+      -- what is told of a cell is a cell, with a level that is high enough
+      told_up : (n : Callee) (H : Held) (u : ℕ) → IsUp n H u → (k : Callee) (K : Held) (w : ℕ) → Contains (tell n H 0) (Calls k K w) → (v : ℕ) × (max u w ≤ v) × IsUp k K v
+      told_up n H u (c, at, under) k K w has =
           let there = slice_get_within q.cells c at.cell at.there in
-          let links = followed.reached.links c at.cell (within c (length q.cells) (length q.levels) (length rows) there followed.reached.even followed.all) at.there in
-          let own : Contains (tell at.cell.method (set_of at.cell) 0) (Calls k (known k) call.0) =
-          subst (λ S. Contains (tell at.cell.method S 0) (Calls k (known k) call.0)) (sym at.set) (subst (λ n. Contains (tell n H 0) (Calls k (known k) call.0)) (sym at.of_method) call.2) in
-          let link = links.each k (known k) call.0 own in
-          let target = levelled link.0.to k (known k) link.3 in
+          let links = followed.reached.links c at.cell (within c (length q.cells) (length q.levels) (length rows_of_links) there followed.reached.even followed.all) at.there in
+          let own : Contains (tell at.cell.callee (set_of at.cell) 0) (Calls k K w) =
+          subst (λ S. Contains (tell at.cell.callee S 0) (Calls k K w)) (sym at.set) (subst (λ z. Contains (tell z H 0) (Calls k K w)) (sym at.of_callee) has) in
+          let link = links.each k K w own in
+          let target = levelled link.0.to k K link.3 in
           let high = greatest.closed c u target.0 link.0 under link.1 target.1 in
-          (target.0, reaches later u call.0 link.0.level target.0 call.1 link.2 high, (link.0.to, link.3, target.1))
+          (target.0, subst (λ l. max u l ≤ target.0) link.2 high, (link.0.to, link.3, target.1))
         where
           within : (c k l r : ℕ) → c < k → l ≡ k → r ≡ l → c < r
           within c k l r one two three = omega (arith, one, two, three)
 
-          reaches : (later u w l v : ℕ) → later ≡ max u w → l ≡ w → max u l ≤ v → later ≤ v
-          reaches later u w l v one two three = omega (arith, one, two, three)
+      no_lower : (u v : ℕ) → max u 0 ≤ v → u ≤ v
+      no_lower u v high = omega (arith, high)
+
+      -- of any that may run: each that overrides next, each that the rows lead to, and each alone
+      next_up : (m k : ℕ) (T : Held) (u : ℕ) → IsUp (any_of m) T u → Contains (row_at rows m) k → (v : ℕ) × (u ≤ v) × IsUp (any_of k) T v
+      next_up m k T u up has =
+          let told = contains_later (Calls (alone m) (held_in (rel m) T) 0) (Calls (any_of k) T 0) (map (λ j. Calls (any_of j) T 0) (row_at rows m)) (mapped_to (λ j. Calls (any_of j) T 0) (row_at rows m) k has) in
+          let r = told_up (any_of m) T u up (any_of k) T 0 told in
+          (r.0, no_lower u r.0 r.1, r.2)
+
+      led_up : (m k : ℕ) (T : Held) (u : ℕ) → IsUp (any_of m) T u → LeadTo rows m k → (v : ℕ) × (u ≤ v) × IsUp (any_of k) T v
+      led_up m k T u up (near has) = next_up m k T u up has
+      led_up m k T u up (further middle leads has) =
+          let r = led_up m middle T u up leads in
+          let s = next_up middle k T r.0 r.2 has in
+          (s.0, le_trans {n = u} {m = r.0} {k = s.0} r.1 s.1, s.2)
+
+      itself_up : (m : ℕ) (T : Held) (u : ℕ) → IsUp (any_of m) T u → (v : ℕ) × (u ≤ v) × G m (held_in (rel m) T) v
+      itself_up m T u up =
+          let r = told_up (any_of m) T u up (alone m) (held_in (rel m) T) 0 (first_there (Calls (alone m) (held_in (rel m) T) 0) (map (λ j. Calls (any_of j) T 0) (row_at rows m))) in
+          (r.0, no_lower u r.0 r.1, r.2)
+
+      own_up : (m k : ℕ) (T : Held) (u : ℕ) → IsUp (any_of m) T u → IsUnder m k → (v : ℕ) × (u ≤ v) × G k (held_in (rel k) T) v
+      own_up m k T u up (inl same) = subst (λ z. (v : ℕ) × (u ≤ v) × G z (held_in (rel z) T) v) (sym same) (itself_up m T u up)
+      own_up m k T u up (inr leads) =
+          let r = led_up m k T u up leads in
+          let s = itself_up k T r.0 r.2 in
+          (s.0, le_trans {n = u} {m = r.0} {k = s.0} r.1 s.1, s.2)
+
+      g_call : (m : ℕ) (H : Held) (u : ℕ) (method : Method) → G m H u → slice_get P.methods m ≡ Some method → (callee : ℕ) (known : ℕ → Held) (later : ℕ) → Contains (body_visits P rel level method H u) (Comes callee known later)
+          → (k : ℕ) → MayRun P k callee → (v : ℕ) × (later ≤ v) × G k (known k) v
+      g_call m H u method up is callee known later has k run = by_row (length (row_at rows callee) == 0) refl told
+        where
+          low : (w : ℕ) × (later ≡ max u w) × Contains (body_visits P rel level method H 0) (Comes callee known w)
+          low = (body_shifts u P rel level method H).down callee known later has
+
+          told : Contains (tell (alone m) H 0) (tell_call (row_at rows) origins callee known low.0)
+          told =
+              subst (λ o. Contains (body_told P rel level (tell_call (row_at rows) origins) o H 0) (tell_call (row_at rows) origins callee known low.0)) (sym is)
+              (visit_told (row_at rows) origins (body_visits P rel level method H 0) (Comes callee known low.0) low.2)
+
+          high : (v : ℕ) → max u low.0 ≤ v → later ≤ v
+          high v above = subst (λ n. n ≤ v) (sym low.1) above
+
+          alone_runs : (length (row_at rows callee) == 0) ≡ true → IsUnder callee k → k ≡ callee
+          alone_runs none (inl same) = same
+          alone_runs none (inr leads) = absurd (not_empty callee k leads none)
+
+          by_row : (b : Bool) → (length (row_at rows callee) == 0) ≡ b → Contains (tell (alone m) H 0) (if b then Calls (alone callee) (known callee) low.0 else Calls (any_of callee) (known_to (callee ∷ origins) known) low.0)
+              → (v : ℕ) × (later ≤ v) × G k (known k) v
+          by_row true none has =
+              let r = told_up (alone m) H u up (alone callee) (known callee) low.0 has in
+              subst (λ z. (v : ℕ) × (later ≤ v) × G z (known z) v) (sym (alone_runs none (is_under callee k run))) (r.0, high r.0 r.1, r.2)
+          by_row false some has =
+              let r = told_up (alone m) H u up (any_of callee) (known_to (callee ∷ origins) known) low.0 has in
+              let s = own_up callee k (known_to (callee ∷ origins) known) r.0 r.2 (is_under callee k run) in
+              subst (λ S. (v : ℕ) × (later ≤ v) × G k S v) (known_under callee known (body_named P rel level method H 0 callee known low.0 low.2) k (is_under callee k run))
+              (s.0, le_trans {n = later} {m = r.0} {k = s.0} (high r.0 r.1) s.1, s.2)
 
       g_greatest : AreAllGreatest P rel level G
       g_greatest = record {
@@ -144,10 +270,11 @@ module _ (P : Program) (rel : ℕ → List PathData) (level : ℕ → ℕ) (over
       bad_among : (m : ℕ) (H : Held) (at : ℕ) (method : Method) (place class v : ℕ) → G m H at → slice_get P.methods m ≡ Some method → Contains (body_visits P rel level method H at) (Bad place class v)
           → Contains (all_bads tell q.cells x) (record { method = m; place = place; class = class; under = v })
       bad_among m H at method place class v (c, cell, under) is has =
-          let wrong : Contains (tell m H at) (Wrong place class v) = subst (λ o. Contains (body_told P rel level (row_at over) o H at) (Wrong place class v)) (sym is) (bad_told (row_at over) (body_visits P rel level method H at) place class v has) in
-          let own : Contains (tell cell.cell.method (set_of cell.cell) at) (Wrong place class v) =
-          subst (λ S. Contains (tell cell.cell.method S at) (Wrong place class v)) (sym cell.set) (subst (λ n. Contains (tell n H at) (Wrong place class v)) (sym cell.of_method) wrong) in
-          subst (λ n. Contains (all_bads tell q.cells x) (record { method = n; place = place; class = class; under = v })) cell.of_method (bad_in_all tell q.cells x c at cell.cell place class v cell.there under own)
+          let wrong : Contains (tell (alone m) H at) (Wrong place class v) =
+          subst (λ o. Contains (body_told P rel level (tell_call (row_at rows) origins) o H at) (Wrong place class v)) (sym is) (visit_told (row_at rows) origins (body_visits P rel level method H at) (Bad place class v) has) in
+          let own : Contains (tell cell.cell.callee (set_of cell.cell) at) (Wrong place class v) =
+          subst (λ S. Contains (tell cell.cell.callee S at) (Wrong place class v)) (sym cell.set) (subst (λ n. Contains (tell n H at) (Wrong place class v)) (sym cell.of_callee) wrong) in
+          subst (λ n. Contains (all_bads tell q.cells x) (record { method = n.method; place = place; class = class; under = v })) cell.of_callee (bad_in_all tell q.cells x c at cell.cell place class v cell.there under own)
 
       -- where there is none the program is ordered
       none_ordered : firsts None (all_bads tell q.cells x) ≡ None → IsOrdered P rel level
@@ -169,18 +296,29 @@ module _ (P : Program) (rel : ℕ → List PathData) (level : ℕ → ℕ) (over
               let r = bad_above P rel level G g_greatest k n c u bad in
               (r.3, r.7, bad_among k r.1 r.2 r.0 n c r.3 r.4 r.5 r.6)
 
-          by_cell : Rattle.level_check.proofs.FirstLemmas.IsOfCell tell q.cells x b → IsFirstBad P rel level b.method b.class b.under
-          by_cell found =
-              let body = told_body (row_at over) P rel level (slice_get P.methods found.cell.method) (set_of found.cell) found.from (Wrong b.place b.class b.under) found.told in
-              let visit = told_bad (row_at over) (body_visits P rel level body.0 (set_of found.cell) found.from) b.place b.class b.under body.2 in
-              let context = g_context found.cell.method (set_of found.cell) found.from (found.at, record { cell = found.cell; there = found.there; of_method = refl; set = refl }, found.level) in
+          by_method : (m : ℕ) (H : Held) (from : ℕ) → b.method ≡ m → G m H from → Contains (tell (alone m) H from) (Wrong b.place b.class b.under) → IsFirstBad P rel level b.method b.class b.under
+          by_method m H from of_method up told =
+              let body = told_body (row_at rows) origins P rel level (slice_get P.methods m) H from (Wrong b.place b.class b.under) told in
+              let visit = told_bad (row_at rows) origins (body_visits P rel level body.0 H from) b.place b.class b.under body.2 in
               record {
                 place = b.place;
-                bad = (body.0, set_of found.cell, found.from, subst (λ n. Context P rel level n (set_of found.cell) found.from) (sym found.of_method) context, ap (slice_get P.methods) found.of_method ∙ body.1, visit);
+                bad = (body.0, H, from, subst (λ n. Context P rel level n H from) (sym of_method) (g_context m H from up), ap (slice_get P.methods) of_method ∙ body.1, visit);
                 earlier = λ k n c u less bad. let r = above k n c u bad in method_later k n r.0 b.method b.place b.under (answer.before (record { method = k; place = n; class = c; under = r.0 }) (inr r.2)) less;
                 first = λ n c u bad. let r = above b.method n c u bad in place_later b.method n r.0 b.method b.place b.under (answer.before (record { method = b.method; place = n; class = c; under = r.0 }) (inr r.2)) refl;
                 greatest = λ c u bad. let r = above b.method b.place c u bad in le_trans {n = u} {m = r.0} {k = b.under} r.1 (level_lower b.method b.place r.0 b.method b.place b.under (answer.before (record { method = b.method; place = b.place; class = c; under = r.0 }) (inr r.2)) refl refl);
               }
+
+          by_cell : Rattle.level_check.proofs.FirstLemmas.IsOfCell tell q.cells x b → IsFirstBad P rel level b.method b.class b.under
+          by_cell found = by_callee found.cell.callee.alone refl
+            where
+              by_callee : (o : Bool) → found.cell.callee.alone ≡ o → IsFirstBad P rel level b.method b.class b.under
+              by_callee true is =
+                  let same : found.cell.callee ≡ alone found.cell.callee.method = λ i. record { method = found.cell.callee.method; alone = is i } in
+                  by_method found.cell.callee.method (set_of found.cell) found.from found.of_method (found.at, record { cell = found.cell; there = found.there; of_callee = same; set = refl }, found.level)
+                  (subst (λ z. Contains (tell z (set_of found.cell) found.from) (Wrong b.place b.class b.under)) same found.told)
+              by_callee false is =
+                  let same : found.cell.callee ≡ any_of found.cell.callee.method = λ i. record { method = found.cell.callee.method; alone = is i } in
+                  absurd (none_wrong found.cell.callee.method (set_of found.cell) b.place b.class b.under (subst (λ z. Contains (tell z (set_of found.cell) found.from) (Wrong b.place b.class b.under)) same found.told))
 
       -- so the first of all tells which is the case
       pub answered : (o : Option BadOne) → o ≡ firsts None (all_bads tell q.cells x) → MatchOption o (IsOrdered P rel level) (λ b. IsFirstBad P rel level b.method b.class b.under)
@@ -191,12 +329,13 @@ if_ok : {A E : Type 0} (F G : A → Type 0) (r : Result A E) → ((x : A) → F 
 if_ok F G (Ok x) each fact = each x fact
 if_ok F G (Err e) each fact = tt
 
-pub answered_by : {E : Type 0} (P : Program) (rel : ℕ → List PathData) (level : ℕ → ℕ) (over : List (List ℕ)) (exact : AreOverriders P over) (start : Queue) (begun : AreFirstCells (P.main ∷ runs_of P.classes) start) (q : Queue) (rows : List (List Link))
-    (followed : AreAllFollowed (tell P rel level over exact) start q rows) (x : List ℕ) (greatest : AreGreatest rows q.levels x) (read : List ℕ) → read ≡ x → (r : Result (Option BadOne) E)
-    → IfOk r (λ o. o ≡ firsts None (all_bads (tell P rel level over exact) q.cells read)) → IfOk r (λ o. MatchOption o (IsOrdered P rel level) (λ b. IsFirstBad P rel level b.method b.class b.under))
-answered_by P rel level over exact start begun q rows followed x greatest read same r told =
-    if_ok (λ o. o ≡ firsts None (all_bads (tell P rel level over exact) q.cells read)) (λ o. MatchOption o (IsOrdered P rel level) (λ b. IsFirstBad P rel level b.method b.class b.under)) r
-    (λ o is. answered P rel level over exact start begun q rows followed x greatest o (is ∙ ap (λ y. firsts None (all_bads (tell P rel level over exact) q.cells y)) same)) told
+pub answered_by : {E : Type 0} (P : Program) (rel : ℕ → List PathData) (level : ℕ → ℕ) (rows : List (List ℕ)) (origins : List ℕ) → AreNearest P rows → AreOrigins rel (row_at rows) origins → ((m k : ℕ) → LeadTo rows m k → MayRun P k m)
+    → (start : Queue) → AreFirstCells (P.main ∷ runs_of P.classes) start → (q : Queue) (links : List (List Link)) → AreAllFollowed (callee_told P rel level (row_at rows) origins) start q links → (x : List ℕ) → AreGreatest links q.levels x
+    → (read : List ℕ) → read ≡ x → (r : Result (Option BadOne) E)
+    → IfOk r (λ o. o ≡ firsts None (all_bads (callee_told P rel level (row_at rows) origins) q.cells read)) → IfOk r (λ o. MatchOption o (IsOrdered P rel level) (λ b. IsFirstBad P rel level b.method b.class b.under))
+answered_by P rel level rows origins nearest exact led start begun q links followed x greatest read same r told =
+    if_ok (λ o. o ≡ firsts None (all_bads (callee_told P rel level (row_at rows) origins) q.cells read)) (λ o. MatchOption o (IsOrdered P rel level) (λ b. IsFirstBad P rel level b.method b.class b.under)) r
+    (λ o is. answered P rel level rows origins nearest exact led start begun q links followed x greatest o (is ∙ ap (λ y. firsts None (all_bads (callee_told P rel level (row_at rows) origins) q.cells y)) same)) told
 
 -- The end of the search.
 

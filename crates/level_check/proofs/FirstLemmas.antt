@@ -148,18 +148,18 @@ in_bad m (Wrong p c u ∷ told) b has = elim (contains_cases (record { method = 
 ]
 
 -- a bad one of a cell's walk is among all
-pub bad_in_all : (tell : Telling) (cells : List Cell) (x : List ℕ) (c u : ℕ) (cell : Cell) (p d v : ℕ) → slice_get cells c ≡ Some cell → slice_get x c ≡ Some u → Contains (tell cell.method (set_of cell) u) (Wrong p d v)
-    → Contains (all_bads tell cells x) (record { method = cell.method; place = p; class = d; under = v })
+pub bad_in_all : (tell : Telling) (cells : List Cell) (x : List ℕ) (c u : ℕ) (cell : Cell) (p d v : ℕ) → slice_get cells c ≡ Some cell → slice_get x c ≡ Some u → Contains (tell cell.callee (set_of cell) u) (Wrong p d v)
+    → Contains (all_bads tell cells x) (record { method = cell.callee.method; place = p; class = d; under = v })
 bad_in_all tell [] x c u cell p d v there under has = absurd (none-some cell there)
 bad_in_all tell (k ∷ cells) [] c u cell p d v there under has = absurd (none-some u under)
 bad_in_all tell (k ∷ cells) (w ∷ x) zero u cell p d v there under has =
     let same = same_Some k cell there in
     let level = same_Some w u under in
-    Contains-append_left (bads_in k.method (tell k.method (set_of k) w)) (all_bads tell cells x) (record { method = cell.method; place = p; class = d; under = v })
-    (subst (λ n. Contains (bads_in k.method (tell k.method (set_of k) n)) (record { method = cell.method; place = p; class = d; under = v })) (sym level)
-    (subst (λ (z : Cell). Contains (bads_in z.method (tell z.method (set_of z) u)) (record { method = cell.method; place = p; class = d; under = v })) (sym same) (bad_in cell.method (tell cell.method (set_of cell) u) p d v has)))
+    Contains-append_left (bads_in k.callee.method (tell k.callee (set_of k) w)) (all_bads tell cells x) (record { method = cell.callee.method; place = p; class = d; under = v })
+    (subst (λ n. Contains (bads_in k.callee.method (tell k.callee (set_of k) n)) (record { method = cell.callee.method; place = p; class = d; under = v })) (sym level)
+    (subst (λ (z : Cell). Contains (bads_in z.callee.method (tell z.callee (set_of z) u)) (record { method = cell.callee.method; place = p; class = d; under = v })) (sym same) (bad_in cell.callee.method (tell cell.callee (set_of cell) u) p d v has)))
 bad_in_all tell (k ∷ cells) (w ∷ x) (suc c) u cell p d v there under has =
-    Contains-append_right (bads_in k.method (tell k.method (set_of k) w)) (all_bads tell cells x) (record { method = cell.method; place = p; class = d; under = v }) (bad_in_all tell cells x c u cell p d v there under has)
+    Contains-append_right (bads_in k.callee.method (tell k.callee (set_of k) w)) (all_bads tell cells x) (record { method = cell.callee.method; place = p; class = d; under = v }) (bad_in_all tell cells x c u cell p d v there under has)
 
 -- and each of all is one of a cell's walk
 pub record IsOfCell (tell : Telling) (cells : List Cell) (x : List ℕ) (b : Bad) : Type 0 where
@@ -168,14 +168,14 @@ pub record IsOfCell (tell : Telling) (cells : List Cell) (x : List ℕ) (b : Bad
   pub from : ℕ
   pub there : slice_get cells at ≡ Some cell
   pub level : slice_get x at ≡ Some from
-  pub of_method : b.method ≡ cell.method
-  pub told : Contains (tell cell.method (set_of cell) from) (Wrong b.place b.class b.under)
+  pub of_method : b.method ≡ cell.callee.method
+  pub told : Contains (tell cell.callee (set_of cell) from) (Wrong b.place b.class b.under)
 
 pub all_in_bad : (tell : Telling) (cells : List Cell) (x : List ℕ) (b : Bad) → Contains (all_bads tell cells x) b → IsOfCell tell cells x b
 all_in_bad tell [] x b has = absurd (nothing_there b has)
 all_in_bad tell (k ∷ cells) [] b has = absurd (nothing_there b has)
-all_in_bad tell (k ∷ cells) (w ∷ x) b has = elim (Contains-append_cases (bads_in k.method (tell k.method (set_of k) w)) (all_bads tell cells x) b has) as (λ _. IsOfCell tell (k ∷ cells) (w ∷ x) b) [
-  | inl here ↦ let r = in_bad k.method (tell k.method (set_of k) w) b here in record { at = 0; cell = k; from = w; there = refl; level = refl; of_method = r.0; told = r.1 }
+all_in_bad tell (k ∷ cells) (w ∷ x) b has = elim (Contains-append_cases (bads_in k.callee.method (tell k.callee (set_of k) w)) (all_bads tell cells x) b has) as (λ _. IsOfCell tell (k ∷ cells) (w ∷ x) b) [
+  | inl here ↦ let r = in_bad k.callee.method (tell k.callee (set_of k) w) b here in record { at = 0; cell = k; from = w; there = refl; level = refl; of_method = r.0; told = r.1 }
   | inr later ↦ let r = all_in_bad tell cells x b later in record { at = suc r.at; cell = r.cell; from = r.from; there = r.there; level = r.level; of_method = r.of_method; told = r.told }
 ]
 
@@ -190,11 +190,11 @@ next_at xs k y is = next_drop xs k y (slice_get_within xs k y is) (by_get xs k y
     by_get (z ∷ xs) (suc k) y is = by_get xs k y is
 
 -- one cell more
-pub all_next : (tell : Telling) (cells : List Cell) (x : List ℕ) (i : ℕ) (cell : Cell) (now new whole : Option Bad) → slice_get cells i ≡ Some cell → i < length x → new ≡ firsts now (bads_in cell.method (tell cell.method (set_of cell) (get_or x i 0)))
+pub all_next : (tell : Telling) (cells : List Cell) (x : List ℕ) (i : ℕ) (cell : Cell) (now new whole : Option Bad) → slice_get cells i ≡ Some cell → i < length x → new ≡ firsts now (bads_in cell.callee.method (tell cell.callee (set_of cell) (get_or x i 0)))
     → firsts now (all_bads tell (drop i cells) (drop i x)) ≡ whole → firsts new (all_bads tell (drop (i + 1) cells) (drop (i + 1) x)) ≡ whole
 all_next tell cells x i cell now new whole there below bad_noted so_far =
     ap (λ o. firsts o (all_bads tell (drop (i + 1) cells) (drop (i + 1) x))) bad_noted
-    ∙ sym (firsts_append now (bads_in cell.method (tell cell.method (set_of cell) (get_or x i 0))) (all_bads tell (drop (i + 1) cells) (drop (i + 1) x)))
+    ∙ sym (firsts_append now (bads_in cell.callee.method (tell cell.callee (set_of cell) (get_or x i 0))) (all_bads tell (drop (i + 1) cells) (drop (i + 1) x)))
     ∙ ap (firsts now) (sym (ap (λ cs. all_bads tell cs (drop i x)) (next_at cells i cell there) ∙ ap (λ us. all_bads tell (cell ∷ drop (i + 1) cells) us) (next_at x i (get_or x i 0) (slice_get-get_or x i 0 below))))
     ∙ so_far
 

@@ -14,14 +14,14 @@ use Rattle.rules.specs.Effect.{after_stmt}
 use Rattle.levels.specs.SlotTypes.{slot_types}
 use Rattle.levels.specs.Walks.{LevelVisit, Comes, Bad, lock_class, syncs_in, call_visits, expr_visits, exprs_visits, sync_visits, visits, block_visits, body_visits}
 
-no_visit : {A : Type 0} (v : A) → Contains [] v → ⊥
+pub no_visit : {A : Type 0} (v : A) → Contains [] v → ⊥
 no_visit v (k, below, is) = omega (arith, below)
 
 abbrev visit_method : LevelVisit → ℕ
 visit_method (Comes m known u) = m
 visit_method (Bad p c u) = 0
 
-abbrev visit_known : LevelVisit → ℕ → Held
+abbrev pub visit_known : LevelVisit → ℕ → Held
 visit_known (Comes m known u) = known
 visit_known (Bad p c u) = λ k q. false
 
@@ -29,7 +29,7 @@ abbrev visit_under : LevelVisit → ℕ
 visit_under (Comes m known u) = u
 visit_under (Bad p c u) = 0
 
-abbrev is_call : LevelVisit → Bool
+abbrev pub is_call : LevelVisit → Bool
 is_call (Comes m known u) = true
 is_call (Bad p c u) = false
 

@@ -1,7 +1,6 @@
 -- What a walk tells, and the visits from which it does.
-use Rattle.std.proofs.Common.{◌≡◌, ◌⊎◌, inl, inr, ◌<◌, ◌≤◌, ℕ, length, get_or, Bool, true, false, List, [], ◌∷◌, ◌++◌, map, Some, None, refl, sym, ap, subst, ◌∙◌, arith}
+use Rattle.std.proofs.Common.{◌≡◌, inl, inr, ◌<◌, ◌≤◌, ◌==◌, ℕ, length, get_or, Bool, true, false, List, [], ◌∷◌, map, Some, None, refl, sym, ap, subst, ◌∙◌, arith, if◌then◌else◌}
 use Rattle.std.specs.Prelude.{Option, Contains, slice_get}
-use Rattle.std.proofs.lemmas.List.Elements.{Contains-append_left, Contains-append_right, Contains-append_cases}
 use Rattle.std.specs.Option.{option_map}
 use Rattle.std.proofs.lemmas.List.{length-map}
 use Rattle.std.proofs.lemmas.Option.{slice_get-map, slice_get-get_or, slice_get_past}
@@ -12,7 +11,8 @@ use Rattle.core_program.specs.Core.{Program, Method}
 use Rattle.core_program.specs.declared.program.CoreMethod.{CoreMethod}
 use Rattle.core_program.specs.Views.{method_of}
 use Rattle.levels.specs.Walks.{LevelVisit, Comes, Bad, body_visits}
-use Rattle.level_check.specs.Told.{ToldLevel, Calls, Wrong, told_at, told}
+use Rattle.level_check.specs.declared.told.Callee.{Callee}
+use Rattle.level_check.specs.Told.{ToldLevel, Calls, Wrong, alone, any_of, known_to, tell_call, told_of, told}
 use Rattle.level_check.specs.Bodies.{body_told}
 
 pub nothing_there : {A : Type 0} (v : A) → Contains [] v → ⊥
@@ -21,23 +21,23 @@ nothing_there v (k, below, is) = omega (arith, below)
 pub first_there : {A : Type 0} (x : A) (xs : List A) → Contains (x ∷ xs) x
 first_there x xs = (0, omega arith, refl)
 
-mapped_from : {A B : Type 0} (f : A → B) (xs : List A) (y : B) → Contains (map f xs) y → (x : A) × Contains xs x × (f x ≡ y)
+pub mapped_from : {A B : Type 0} (f : A → B) (xs : List A) (y : B) → Contains (map f xs) y → (x : A) × Contains xs x × (f x ≡ y)
 mapped_from f [] y has = absurd (nothing_there y has)
 mapped_from f (x ∷ xs) y has = elim (contains_cases (f x) y (map f xs) has) as (λ _. (z : _) × Contains (x ∷ xs) z × (f z ≡ y)) [
   | inl same ↦ (x, first_there x xs, same)
   | inr later ↦ let r = mapped_from f xs y later in (r.0, contains_later x r.0 xs r.1, r.2)
 ]
 
-mapped_to : {A B : Type 0} (f : A → B) (xs : List A) (x : A) → Contains xs x → Contains (map f xs) (f x)
+pub mapped_to : {A B : Type 0} (f : A → B) (xs : List A) (x : A) → Contains xs x → Contains (map f xs) (f x)
 mapped_to f [] x has = absurd (nothing_there x has)
 mapped_to f (y ∷ xs) x has = elim (contains_cases y x xs has) as (λ _. Contains (f y ∷ map f xs) (f x)) [
   | inl same ↦ (0, omega arith, ap f same)
   | inr later ↦ contains_later (f y) (f x) (map f xs) (mapped_to f xs x later)
 ]
 
-abbrev pub told_method : ToldLevel → ℕ
-told_method (Calls k K w) = k
-told_method (Wrong p c u) = 0
+abbrev pub told_callee : ToldLevel → Callee
+told_callee (Calls k K w) = k
+told_callee (Wrong p c u) = alone 0
 
 abbrev pub told_set : ToldLevel → Held
 told_set (Calls k K w) = K
@@ -63,93 +63,58 @@ abbrev pub wrong_under : ToldLevel → ℕ
 wrong_under (Calls k K w) = 0
 wrong_under (Wrong p c u) = u
 
-module _ (over : ℕ → List ℕ) where
-  -- a method that may run where another is called
-  abbrev pub Runs : ℕ → ℕ → Type 0
-  Runs k callee = (k ≡ callee) ⊎ Contains (over callee) k
+module _ (over : ℕ → List ℕ) (origins : List ℕ) where
+  -- a call tells of a callee, under its own level
+  call_is_call : (m : ℕ) (known : ℕ → Held) (u : ℕ) → told_is_call (tell_call over origins m known u) ≡ true
+  call_is_call m known u = by_row (length (over m) == 0)
+    where
+      by_row : (b : Bool) → told_is_call (if b then Calls (alone m) (known m) u else Calls (any_of m) (known_to (m ∷ origins) known) u) ≡ true
+      by_row true = refl
+      by_row false = refl
+
+  call_level : (m : ℕ) (known : ℕ → Held) (u : ℕ) → told_level (tell_call over origins m known u) ≡ u
+  call_level m known u = by_row (length (over m) == 0)
+    where
+      by_row : (b : Bool) → told_level (if b then Calls (alone m) (known m) u else Calls (any_of m) (known_to (m ∷ origins) known) u) ≡ u
+      by_row true = refl
+      by_row false = refl
 
   -- a call that is told comes from a visit
-  pub record IsCall (vs : List LevelVisit) (k : ℕ) (K : Held) (w : ℕ) : Type 0 where
+  pub record IsCall (vs : List LevelVisit) (k : Callee) (K : Held) (w : ℕ) : Type 0 where
     pub callee : ℕ
     pub known : ℕ → Held
     pub visit : Contains vs (Comes callee known w)
-    pub runs : Runs k callee
-    pub set : known k ≡ K
+    pub tells : tell_call over origins callee known w ≡ Calls k K w
 
-  here_call : (v : LevelVisit) (vs : List LevelVisit) (k : ℕ) (K : Held) (w : ℕ) → Contains (told_at over v) (Calls k K w) → IsCall (v ∷ vs) k K w
-  here_call (Comes m known u) vs k K w has = elim (contains_cases (Calls m (known m) u) (Calls k K w) (map (λ n. Calls n (known n) u) (over m)) has) as (λ _. IsCall (Comes m known u ∷ vs) k K w) [
-    | inl same ↦ record {
-      callee = m;
-      known = known;
-      visit = subst (λ n. Contains (Comes m known u ∷ vs) (Comes m known n)) (ap told_level same) (first_there (Comes m known u) vs);
-      runs = inl (sym (ap told_method same));
-      set = sym (ap known (ap told_method same)) ∙ ap told_set same;
-    }
-    | inr later ↦
-        let r = mapped_from (λ n. Calls n (known n) u) (over m) (Calls k K w) later in
-        record {
-          callee = m;
-          known = known;
-          visit = subst (λ n. Contains (Comes m known u ∷ vs) (Comes m known n)) (ap told_level r.2) (first_there (Comes m known u) vs);
-          runs = inr (subst (λ n. Contains (over m) n) (ap told_method r.2) r.1);
-          set = sym (ap known (ap told_method r.2)) ∙ ap told_set r.2;
-        }
-  ]
-  here_call (Bad p c u) vs k K w has = elim (contains_cases (Wrong p c u) (Calls k K w) [] has) as (λ _. IsCall (Bad p c u ∷ vs) k K w) [
-    | inl same ↦ absurd (let e : false ≡ true = ap told_is_call same in cc)
-    | inr later ↦ absurd (nothing_there _ later)
-  ]
+  pub told_call : (vs : List LevelVisit) (k : Callee) (K : Held) (w : ℕ) → Contains (told (tell_call over origins) vs) (Calls k K w) → IsCall vs k K w
+  told_call vs k K w has = let r = mapped_from (told_of (tell_call over origins)) vs (Calls k K w) has in by_visit r.0 r.1 r.2
+    where
+      by_visit : (v : LevelVisit) → Contains vs v → told_of (tell_call over origins) v ≡ Calls k K w → IsCall vs k K w
+      by_visit (Comes m known u) there same =
+          let level : u ≡ w = sym (call_level m known u) ∙ ap told_level same in
+          record {
+            callee = m;
+            known = known;
+            visit = subst (λ n. Contains vs (Comes m known n)) level there;
+            tells = subst (λ n. tell_call over origins m known n ≡ Calls k K w) level same;
+          }
+      by_visit (Bad p c u) there same = absurd (let e : false ≡ true = ap told_is_call same in cc)
 
-  pub told_call : (vs : List LevelVisit) (k : ℕ) (K : Held) (w : ℕ) → Contains (told over vs) (Calls k K w) → IsCall vs k K w
-  told_call [] k K w has = absurd (nothing_there _ has)
-  told_call (v ∷ vs) k K w has = elim (Contains-append_cases (told_at over v) (told over vs) (Calls k K w) has) as (λ _. IsCall (v ∷ vs) k K w) [
-    | inl here ↦ here_call v vs k K w here
-    | inr later ↦
-        let r = told_call vs k K w later in
-        record { callee = r.callee; known = r.known; visit = contains_later v (Comes r.callee r.known w) vs r.visit; runs = r.runs; set = r.set }
-  ]
-
-  call_here : (callee : ℕ) (known : ℕ → Held) (w k : ℕ) → Runs k callee → Contains (told_at over (Comes callee known w)) (Calls k (known k) w)
-  call_here callee known w k (inl same) = subst (λ n. Contains (told_at over (Comes callee known w)) (Calls n (known n) w)) (sym same) (first_there (Calls callee (known callee) w) (map (λ n. Calls n (known n) w) (over callee)))
-  call_here callee known w k (inr overs) = contains_later (Calls callee (known callee) w) (Calls k (known k) w) (map (λ n. Calls n (known n) w) (over callee)) (mapped_to (λ n. Calls n (known n) w) (over callee) k overs)
-
-  -- a visit's call is told
-  pub call_told : (vs : List LevelVisit) (callee : ℕ) (known : ℕ → Held) (w k : ℕ) → Contains vs (Comes callee known w) → Runs k callee → Contains (told over vs) (Calls k (known k) w)
-  call_told [] callee known w k has runs = absurd (nothing_there _ has)
-  call_told (v ∷ vs) callee known w k has runs = elim (contains_cases v (Comes callee known w) vs has) as (λ _. Contains (told_at over v ++ told over vs) (Calls k (known k) w)) [
-    | inl same ↦ Contains-append_left (told_at over v) (told over vs) (Calls k (known k) w) (subst (λ x. Contains (told_at over x) (Calls k (known k) w)) (sym same) (call_here callee known w k runs))
-    | inr later ↦ Contains-append_right (told_at over v) (told over vs) (Calls k (known k) w) (call_told vs callee known w k later runs)
-  ]
-
-  -- a bad one is told
-  pub bad_told : (vs : List LevelVisit) (p c u : ℕ) → Contains vs (Bad p c u) → Contains (told over vs) (Wrong p c u)
-  bad_told [] p c u has = absurd (nothing_there _ has)
-  bad_told (v ∷ vs) p c u has = elim (contains_cases v (Bad p c u) vs has) as (λ _. Contains (told_at over v ++ told over vs) (Wrong p c u)) [
-    | inl same ↦ Contains-append_left (told_at over v) (told over vs) (Wrong p c u) (subst (λ x. Contains (told_at over x) (Wrong p c u)) (sym same) (first_there (Wrong p c u) []))
-    | inr later ↦ Contains-append_right (told_at over v) (told over vs) (Wrong p c u) (bad_told vs p c u later)
-  ]
-
-  bad_here : (v : LevelVisit) (vs : List LevelVisit) (p c u : ℕ) → Contains (told_at over v) (Wrong p c u) → Contains (v ∷ vs) (Bad p c u)
-  bad_here (Comes m known w) vs p c u has = elim (contains_cases (Calls m (known m) w) (Wrong p c u) (map (λ n. Calls n (known n) w) (over m)) has) as (λ _. Contains (Comes m known w ∷ vs) (Bad p c u)) [
-    | inl same ↦ absurd (let e : true ≡ false = ap told_is_call same in cc)
-    | inr later ↦ let r = mapped_from (λ n. Calls n (known n) w) (over m) (Wrong p c u) later in absurd (let e : true ≡ false = ap told_is_call r.2 in cc)
-  ]
-  bad_here (Bad q d v) vs p c u has = elim (contains_cases (Wrong q d v) (Wrong p c u) [] has) as (λ _. Contains (Bad q d v ∷ vs) (Bad p c u)) [
-    | inl same ↦ (0, omega arith, λ i. Bad (wrong_place (same i)) (wrong_class (same i)) (wrong_under (same i)))
-    | inr later ↦ absurd (nothing_there _ later)
-  ]
+  -- a visit is told
+  pub visit_told : (vs : List LevelVisit) (v : LevelVisit) → Contains vs v → Contains (told (tell_call over origins) vs) (told_of (tell_call over origins) v)
+  visit_told vs v has = mapped_to (told_of (tell_call over origins)) vs v has
 
   -- what is told as bad is a bad visit
-  pub told_bad : (vs : List LevelVisit) (p c u : ℕ) → Contains (told over vs) (Wrong p c u) → Contains vs (Bad p c u)
-  told_bad [] p c u has = absurd (nothing_there _ has)
-  told_bad (v ∷ vs) p c u has = elim (Contains-append_cases (told_at over v) (told over vs) (Wrong p c u) has) as (λ _. Contains (v ∷ vs) (Bad p c u)) [
-    | inl here ↦ bad_here v vs p c u here
-    | inr later ↦ contains_later v (Bad p c u) vs (told_bad vs p c u later)
-  ]
+  pub told_bad : (vs : List LevelVisit) (p c u : ℕ) → Contains (told (tell_call over origins) vs) (Wrong p c u) → Contains vs (Bad p c u)
+  told_bad vs p c u has = let r = mapped_from (told_of (tell_call over origins)) vs (Wrong p c u) has in by_visit r.0 r.1 r.2
+    where
+      by_visit : (v : LevelVisit) → Contains vs v → told_of (tell_call over origins) v ≡ Wrong p c u → Contains vs (Bad p c u)
+      by_visit (Comes m known w) there same = absurd (let e : true ≡ false = sym (call_is_call m known w) ∙ ap told_is_call same in cc)
+      by_visit (Bad q d v) there same = subst (λ x. Contains vs x) (λ i. Bad (wrong_place (same i)) (wrong_class (same i)) (wrong_under (same i))) there
 
   -- where something is told there is the method
-  pub told_body : (P : Program) (rel : ℕ → List PathData) (level : ℕ → ℕ) (o : Option Method) (H : Held) (u : ℕ) (t : ToldLevel) → Contains (body_told P rel level over o H u) t
-      → (method : Method) × (o ≡ Some method) × Contains (told over (body_visits P rel level method H u)) t
+  pub told_body : (P : Program) (rel : ℕ → List PathData) (level : ℕ → ℕ) (o : Option Method) (H : Held) (u : ℕ) (t : ToldLevel) → Contains (body_told P rel level (tell_call over origins) o H u) t
+      → (method : Method) × (o ≡ Some method) × Contains (told (tell_call over origins) (body_visits P rel level method H u)) t
   told_body P rel level None H u t has = absurd (nothing_there t has)
   told_body P rel level (Some method) H u t has = (method, refl, has)
 

@@ -29,4 +29,4 @@ bads_in m (Wrong p c u ∷ told) = record { method = m; place = p; class = c; un
 abbrev pub all_bads : Telling → List Cell → List ℕ → List Bad
 all_bads tell [] levels = []
 all_bads tell (cell ∷ cells) [] = []
-all_bads tell (cell ∷ cells) (u ∷ us) = bads_in cell.method (tell cell.method (set_of cell) u) ++ all_bads tell cells us
+all_bads tell (cell ∷ cells) (u ∷ us) = bads_in cell.callee.method (tell cell.callee (set_of cell) u) ++ all_bads tell cells us

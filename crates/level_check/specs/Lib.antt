@@ -1,8 +1,10 @@
 -- What the contracts of greatest levels cite: Greatest for a reader; Rises serves the private functions.
 pub mod Greatest
 pub mod Rises
--- What the contracts of the walk in code cite: what a walk has seen, with each method that may run at a call.
+-- What the contracts of the walk in code cite: what a walk has seen, with what may run at each call.
 pub mod Told
+-- What the calls of methods that others override cite: the methods that know paths which those that they override don't.
+pub mod Origins
 -- What the search for the first bad `synchronized` cites, in this order: what walks tell (Bodies), the cells that are reached over
 -- calls (Cells), and which bad one comes first (Bad).
 pub mod Bodies

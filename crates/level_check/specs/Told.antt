@@ -1,29 +1,51 @@
--- What a walk in code tells: for each call the methods that may run there, each with the paths that it knows.
-use Rattle.std.specs.Prelude.{ℕ, List, [], ◌∷◌, ◌++◌, map, nat_lt, if◌then◌else◌}
+-- What a walk in code tells: for each call what may run there, with the paths that are known.
+use Rattle.std.specs.Prelude.{ℕ, ◌==◌, true, false, List, [], ◌∷◌, length, map, nat_lt, if◌then◌else◌}
+use Rattle.std.specs.List.{list_any}
 use Rattle.algebra.specs.HeldPaths.{Held, has_path}
 use Rattle.core_program.specs.Views.{program_of}
 use Rattle.core_program.specs.Core.{Expr, Exprs, Stmt, Stmts}
 use Rattle.rules.specs.Near.{rel_of}
 use Rattle.rules.specs.Search.{row_at}
 use Rattle.levels.specs.Walks.{LevelVisit, Comes, Bad, level_in, expr_visits, exprs_visits, visits, block_visits}
+use Rattle.level_check.specs.declared.told.Callee.{Callee}
 use Rattle.level_check.specs.declared.told.Seen.{Seen}
 use Rattle.level_check.specs.declared.told.Seen.TheVariants as seen
 use Rattle.level_check.specs.declared.walk.Walk.{Walk}
 
--- a method that may run, with what it knows to be held, under a level; or a bad `synchronized` with its place, the lock's class and the level
+-- what may run, with what is known to be held, under a level; or a bad `synchronized` with its place, the lock's class and the level
 pub data ToldLevel : Type 0 where
-  Calls : ℕ → Held → ℕ → ToldLevel
+  Calls : Callee → Held → ℕ → ToldLevel
   Wrong : ℕ → ℕ → ℕ → ToldLevel
 
--- what a visit tells, where these methods override others
-abbrev pub told_at : (ℕ → List ℕ) → LevelVisit → List ToldLevel
-told_at over (Comes m known under) = Calls m (known m) under ∷ map (λ k. Calls k (known k) under) (over m)
-told_at over (Bad place class under) = Wrong place class under ∷ []
+-- a method itself
+abbrev pub alone : ℕ → Callee
+alone m = record { method = m; alone = true }
+
+-- any of a method and those that override it
+abbrev pub any_of : ℕ → Callee
+any_of m = record { method = m; alone = false }
+
+-- the paths that one of these methods knows
+abbrev pub known_to : List ℕ → (ℕ → Held) → Held
+known_to ms known p = list_any (λ k. known k p) ms
+
+-- what a call tells of its callee, of what is known to each method, and of its level
+abbrev pub CallTold : Type 0
+CallTold = ℕ → (ℕ → Held) → ℕ → ToldLevel
+
+-- where these methods override others next: the callee alone where none overrides it; else any that may run, with all that the callee and the origins
+-- of paths know
+abbrev pub tell_call : (over : ℕ → List ℕ) (origins : List ℕ) → CallTold
+tell_call over origins m known under = if length (over m) == 0 then Calls (alone m) (known m) under else Calls (any_of m) (known_to (m ∷ origins) known) under
+
+-- what a visit tells
+abbrev pub told_of : CallTold → LevelVisit → ToldLevel
+told_of call (Comes m known under) = call m known under
+told_of call (Bad place class under) = Wrong place class under
 
 -- what visits tell
-abbrev pub told : (ℕ → List ℕ) → List LevelVisit → List ToldLevel
-told over [] = []
-told over (v ∷ vs) = told_at over v ++ told over vs
+abbrev pub told : CallTold → List LevelVisit → List ToldLevel
+told call vs = map (told_of call) vs
 
 -- what a `synchronized` on a path that isn't held tells before its part: that it is bad, where the lock's level isn't above the walk's
 abbrev pub told_bad : (place class under level : ℕ) → List ToldLevel
@@ -31,21 +53,25 @@ told_bad place class under level = if nat_lt under level then [] else Wrong plac
 
 -- what was seen as plain data
 abbrev pub told_level_of : Seen → ToldLevel
-told_level_of (seen.Comes method held under) = Calls method (has_path held.items) under
+told_level_of (seen.Comes callee held under) = Calls callee (has_path held.items) under
 told_level_of (seen.Bad place class under) = Wrong place class under
+
+-- what a call tells in this walk
+abbrev pub call_in : Walk → CallTold
+call_in w = tell_call (row_at w.over.now) w.origins.now
 
 -- what the parts of a body tell in this walk
 abbrev pub expr_told : Walk → Expr → Held → ℕ → List ToldLevel
-expr_told w e H under = told (row_at w.over.now) (expr_visits (program_of w.program.now) (rel_of w.sets.now) e H under)
+expr_told w e H under = told (call_in w) (expr_visits (program_of w.program.now) (rel_of w.sets.now) e H under)
 
 -- what the arguments of a call or of `new` tell in this walk
 abbrev pub exprs_told : Walk → Exprs → Held → ℕ → List ToldLevel
-exprs_told w es H under = told (row_at w.over.now) (exprs_visits (program_of w.program.now) (rel_of w.sets.now) es H under)
+exprs_told w es H under = told (call_in w) (exprs_visits (program_of w.program.now) (rel_of w.sets.now) es H under)
 
 -- what a statement tells, whose first `synchronized` has this place
 abbrev pub stmt_told : Walk → Stmt → ℕ → Held → ℕ → List ToldLevel
-stmt_told w s place H under = told (row_at w.over.now) (visits (program_of w.program.now) (rel_of w.sets.now) (level_in w.levels.now) w.slots.now s place H under)
+stmt_told w s place H under = told (call_in w) (visits (program_of w.program.now) (rel_of w.sets.now) (level_in w.levels.now) w.slots.now s place H under)
 
 -- what the statements of a block tell, whose first `synchronized` has this place
 abbrev pub block_told : Walk → Stmts → ℕ → Held → ℕ → List ToldLevel
-block_told w ss place H under = told (row_at w.over.now) (block_visits (program_of w.program.now) (rel_of w.sets.now) (level_in w.levels.now) w.slots.now ss place H under)
+block_told w ss place H under = told (call_in w) (block_visits (program_of w.program.now) (rel_of w.sets.now) (level_in w.levels.now) w.slots.now ss place H under)

@@ -3,13 +3,15 @@ ghost use Rattle.std.specs.Prelude.{◌≡◌, ◌⊎◌, ℕ, List, Some, None,
 ghost use Rattle.core_program.specs.Typed.{IsTyped};
 ghost use Rattle.core_program.specs.Views.{program_of};
 ghost use Rattle.rules.specs.Near.{AreRelevant, rel_of};
-ghost use Rattle.rules.specs.Overriding.{AreOverriders};
+ghost use Rattle.rules.specs.Nearest.{AreNearest};
+ghost use Rattle.rules.specs.Search.{row_at};
 ghost use Rattle.state.specs.States.{State};
 ghost use Rattle.semantics.specs.Run.{run};
 ghost use Rattle.levels.specs.SlotTypes.{AreMarked};
 ghost use Rattle.levels.specs.Walks.{level_in};
 ghost use Rattle.levels.specs.Contexts.{IsOrdered, IsFirstBad};
 ghost use Rattle.levels.specs.Circles.{Circle};
+ghost use Rattle.level_check.specs.Origins.{AreOrigins};
 
 use crate::bad::Bad;
 use crate::cells::Cells;
@@ -17,18 +19,20 @@ use crate::end::LevelEnd;
 use crate::explore::{first_cells, follow_all};
 use crate::judged::Judged;
 use crate::levelled::greatest;
+use crate::origins::origins;
 use crate::scan::first_bad;
 use core_program::CoreProgram;
 use levels::{Levels, answer_laws, level_laws};
-use rules::{RelevantSets, overriders};
+use rules::{RelevantSets, nearest_overriders};
 use std::alloc::{AllocError as NoMemory, Global};
 
 /// Whether a program is ordered for these levels of its classes.
 ///
 /// Only contexts that are reached are looked at, each once for its calls and once for what is bad at its greatest level: a method with n
 /// relevant paths has 2 ^ n at most. A call is looked at again only where the level of its context rose, which it does at most once
-/// for each level of a class. A walk takes the size of the body, for each call with the relevant paths of the methods that may run there, times
-/// the paths that are held.
+/// for each level of a class. A walk takes the size of the body, for each call with the relevant paths of the callee, and of the origins of paths
+/// where it is overridden, times the paths that are held. What is called that others override is a context more, from which those that override it
+/// next are reached, and from these the others.
 pub fn ordered(
     alloc: Global,
     program: &CoreProgram,
@@ -82,11 +86,13 @@ fn found(
         (IsOrdered (program_of program.now) (rel_of sets.now) (level_in levels.now.of.items))
         (λ bad. IsFirstBad (program_of program.now) (rel_of sets.now) (level_in levels.now.of.items) bad.method bad.class bad.under)) }
 {
-    let over = overriders(alloc, program)?;
+    let over = nearest_overriders(alloc, program)?;
+    let origins = origins(alloc, program, sets, &over)?;
     let judged = Judged {
         program,
         sets,
         over: &over,
+        origins: origins.as_slice(),
         levels: levels.of.as_slice(),
     };
     found_by(alloc, &judged)
@@ -95,7 +101,8 @@ fn found(
 /// The first bad `synchronized` of the judged program, or none where it is ordered.
 fn found_by(alloc: Global, judged: &Judged<'_>) -> Result<Option<Bad>, NoMemory>
     requires typed { IsTyped (program_of judged.now.program.now) }
-    requires over { AreOverriders (program_of judged.now.program.now) judged.now.over.now }
+    requires over { AreNearest (program_of judged.now.program.now) judged.now.over.now }
+    requires origins { AreOrigins (rel_of judged.now.sets.now) (row_at judged.now.over.now) judged.now.origins.now }
     ensures { IfOk result (λ found. MatchOption found
         (IsOrdered (program_of judged.now.program.now) (rel_of judged.now.sets.now) (level_in judged.now.levels.now))
         (λ bad. IsFirstBad (program_of judged.now.program.now) (rel_of judged.now.sets.now) (level_in judged.now.levels.now) bad.method bad.class bad.under)) }

@@ -2,14 +2,15 @@
 ghost use Rattle.std.specs.Prelude.{◌≡◌, [], IfOk};
 ghost use Rattle.level_check.specs.Cells.{set_of, queue_of, IsAdded};
 
+use crate::told::Callee;
 use indexmap::IndexSet;
-use paths::{MethodId, Path};
+use paths::Path;
 use std::alloc::{AllocError as NoMemory, Global};
 
-/// A method, and those of its relevant paths that are held where it is called.
+/// What may run, and those of its relevant paths that are held where it is called.
 #[derive(Drop, PartialEq, Eq, Hash)]
 pub(crate) struct Cell {
-    pub(crate) method: MethodId,
+    pub(crate) callee: Callee,
     pub(crate) held: Vec<Path>,
 }
 
@@ -33,7 +34,7 @@ impl Cells {
 
     /// The place of a cell, which is added with this level where it isn't there.
     pub(crate) fn add(&mut self, cell: Cell, level: u32) -> Result<usize, NoMemory>
-        ensures { IfOk result (λ at. IsAdded (queue_of self.old) cell.method (set_of cell) level at (queue_of self.new)) }
+        ensures { IfOk result (λ at. IsAdded (queue_of self.old) cell.callee (set_of cell) level at (queue_of self.new)) }
     {
         let (at, is_new) = self.known.insert_full(cell)?;
         if !is_new {

@@ -10,10 +10,10 @@ ghost use Rattle.level_check.specs.Cells.{runs_of, queue_of, AreFirstCells, AreA
 use crate::cells::{Cell, Cells};
 use crate::judged::{Judged, seen_in};
 use crate::link::{CellLinks, Link};
-use crate::told::Seen;
+use crate::told::{Callee, Seen};
 use core_program::CoreProgram;
 use effects::copied;
-use paths::{MethodId, Path};
+use paths::MethodId;
 use std::alloc::{AllocError as NoMemory, Global};
 
 /// `main`, and the method that runs for `run` of each class.
@@ -30,14 +30,18 @@ fn first_methods(alloc: Global, program: &CoreProgram) -> Result<Vec<MethodId>, 
     Ok(methods)
 }
 
-/// The cells of these methods with nothing held, under level 0.
+/// The cells of these methods alone with nothing held, under level 0.
 fn cells_of(alloc: Global, methods: &[MethodId]) -> Result<Cells, NoMemory>
     ensures { IfOk result (λ cells. AreFirstCells methods.now (queue_of cells)) }
 {
     let mut cells = Cells::new(alloc);
     for method in methods {
-        let cell = Cell {
+        let callee = Callee {
             method: *method,
+            alone: true,
+        };
+        let cell = Cell {
+            callee,
             held: Vec::new(alloc),
         };
         cells.add(cell, 0)?;
@@ -61,7 +65,7 @@ fn add_call(
     cells: &mut Cells,
     links: &mut Vec<Link>,
 ) -> Result<(), NoMemory>
-    ensures { OnOk result (IsLinked (Calls cell.method (has_path cell.held.items) under) from (queue_of cells.old) (queue_of cells.new) links.old.items links.new.items) }
+    ensures { OnOk result (IsLinked (Calls cell.callee (has_path cell.held.items) under) from (queue_of cells.old) (queue_of cells.new) links.old.items links.new.items) }
 {
     let to = cells.add(cell, from.max(under))?;
     links.push(Link { to, level: under })?;
@@ -80,12 +84,12 @@ fn add_visit(
 {
     match visit {
         Seen::Comes {
-            method,
+            callee,
             held,
             under,
         } => {
             let cell = Cell {
-                method: *method,
+                callee: *callee,
                 held: copied(alloc, held.as_slice())?,
             };
             add_call(cell, *under, from, cells, links)
@@ -127,7 +131,7 @@ fn follow(
     let Some(cell) = cells.known.get_index(at) else {
         return CellLinks::of(alloc, Vec::new(alloc));
     };
-    let seen = seen_in(alloc, judged, cell.method, cell.held.as_slice(), 0)?;
+    let seen = seen_in(alloc, judged, cell.callee, cell.held.as_slice(), 0)?;
     add_calls(alloc, seen.as_slice(), from, cells)
 }
 

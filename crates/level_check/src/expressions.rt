@@ -7,9 +7,9 @@ ghost use Rattle.levels.specs.Walks.{Comes};
 ghost use Rattle.rules.specs.Effect.{held_under};
 ghost use Rattle.rules.specs.Mentions.{paths_of};
 ghost use Rattle.rules.specs.Near.{rel_of};
-ghost use Rattle.rules.specs.Search.{row_at};
-ghost use Rattle.level_check.specs.Told.{Calls, told_at, told_level_of, expr_told, exprs_told};
+ghost use Rattle.level_check.specs.Told.{call_in, told_of, told_level_of, expr_told, exprs_told};
 
+use crate::callees::{add_callee, known_to_any};
 use crate::told::Seen;
 use crate::walk::{Carried, Walk};
 use core_program::CoreExpr;
@@ -17,34 +17,7 @@ use effects::{Called, held_under};
 use paths::MethodId;
 use std::alloc::AllocError as NoMemory;
 
-/// Adds a method that may run at a call on this receiver with these arguments.
-fn add_run(
-    walk: &Walk<'_>,
-    receiver: &CoreExpr,
-    method: MethodId,
-    args: &[CoreExpr],
-    carried: &Carried<'_>,
-    seen: &mut Vec<Seen>,
-) -> Result<(), NoMemory>
-    ensures { OnOk result (let P = program_of walk.now.program.now in
-        map told_level_of seen.new.items ≡ map told_level_of seen.old.items
-        ++ Calls method (held_under (rel_of walk.now.sets.now method) (path_of P (expr_of receiver.now)) (paths_of P (exprs_from args.now)) (has_path carried.now.held.now)) carried.now.under ∷ []) }
-{
-    let call = Called {
-        receiver,
-        callee: method,
-        args,
-    };
-    let held = held_under(walk.alloc, walk.program, walk.sets, &call, carried.held)?;
-    seen.push(Seen::Comes {
-        method,
-        held,
-        under: carried.under,
-    })?;
-    Ok(())
-}
-
-/// Adds the methods that may run at a call: the callee, and those that override it.
+/// Adds what may run at a call of this callee.
 fn add_call(
     walk: &Walk<'_>,
     receiver: &CoreExpr,
@@ -55,13 +28,19 @@ fn add_call(
 ) -> Result<(), NoMemory>
     ensures { OnOk result (let P = program_of walk.now.program.now in
         map told_level_of seen.new.items ≡ map told_level_of seen.old.items
-        ++ told_at (row_at walk.now.over.now) (Comes callee (λ k. held_under (rel_of walk.now.sets.now k) (path_of P (expr_of receiver.now)) (paths_of P (exprs_from args.now)) (has_path carried.now.held.now)) carried.now.under)) }
+        ++ told_of (call_in walk.now) (Comes callee (λ k. held_under (rel_of walk.now.sets.now k) (path_of P (expr_of receiver.now)) (paths_of P (exprs_from args.now)) (has_path carried.now.held.now)) carried.now.under) ∷ []) }
 {
-    add_run(walk, receiver, callee, args, carried, seen)?;
-    for over in walk.over.of(callee) {
-        add_run(walk, receiver, *over, args, carried, seen)?;
+    let call = Called {
+        receiver,
+        callee,
+        args,
+    };
+    if walk.over.of(callee).is_empty() {
+        let held = held_under(walk.alloc, walk.program, walk.sets, &call, carried.held)?;
+        return add_callee(callee, true, held, carried.under, seen);
     }
-    Ok(())
+    let held = known_to_any(walk, &call, carried.held)?;
+    add_callee(callee, false, held, carried.under, seen)
 }
 
 /// Walks through an expression.

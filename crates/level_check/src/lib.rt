@@ -4,6 +4,7 @@
 
 mod answer;
 mod bad;
+mod callees;
 mod cells;
 mod checks;
 mod end;
@@ -15,6 +16,7 @@ mod levelled;
 mod lines;
 mod link;
 mod names;
+mod origins;
 mod raise;
 mod reader;
 mod rising;
@@ -33,5 +35,5 @@ pub use link::{CellLinks, Link};
 pub use reader::{LevelsFault, read_levels};
 pub use slots::slot_types;
 pub use statements::walk_body;
-pub use told::Seen;
+pub use told::{Callee, Seen};
 pub use walk::Walk;

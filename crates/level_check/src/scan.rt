@@ -21,10 +21,10 @@ fn note_cell(
     first: &mut Option<Bad>,
 ) -> Result<(), NoMemory>
     requires { IsTyped (program_of judged.now.program.now) }
-    ensures { OnOk result (first.new ≡ firsts first.old (bads_in cell.now.method (told_from judged.now cell.now.method (set_of cell.now) under))) }
+    ensures { OnOk result (first.new ≡ firsts first.old (bads_in cell.now.callee.method (told_from judged.now cell.now.callee (set_of cell.now) under))) }
 {
-    let seen = seen_in(alloc, judged, cell.method, cell.held.as_slice(), under)?;
-    note_all(first, cell.method, seen.as_slice());
+    let seen = seen_in(alloc, judged, cell.callee, cell.held.as_slice(), under)?;
+    note_all(first, cell.callee.method, seen.as_slice());
     Ok(())
 }
 

@@ -1,13 +1,13 @@
-//! Where a walk goes: the program, its relevant paths, the methods that override others, the levels of classes, and the types of a
-//! method's slots.
+//! Where a walk goes: the program, its relevant paths, the methods that override others next, the origins of paths, the levels of classes,
+//! and the types of a method's slots.
 ghost use Rattle.std.specs.Prelude.{◌≡◌, slice_get, Some};
 ghost use Rattle.core_program.specs.Types.{field_type};
 ghost use Rattle.core_program.specs.Views.{program_of};
 ghost use Rattle.levels.specs.Walks.{level_in, class_of_slot, lock_class};
 
 use core_program::{CoreProgram, CoreType};
-use paths::{ClassId, FieldId, Path};
-use rules::{OverridingMethods, RelevantSets};
+use paths::{ClassId, FieldId, MethodId, Path};
+use rules::{NearestMethods, RelevantSets};
 use std::alloc::Global;
 
 /// What a walk through a body asks, and where it takes memory. `levels` has a level for each class, from 1 on.
@@ -16,7 +16,8 @@ pub struct Walk<'a> {
     pub alloc: Global,
     pub program: &'a CoreProgram,
     pub sets: &'a RelevantSets,
-    pub over: &'a OverridingMethods,
+    pub over: &'a NearestMethods,
+    pub origins: &'a [MethodId],
     pub levels: &'a [u32],
     pub slots: &'a [CoreType],
 }

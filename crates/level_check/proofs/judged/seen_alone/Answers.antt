@@ -6,7 +6,7 @@ use Rattle.algebra.specs.HeldPaths.{has_path}
 use Rattle.level_check.specs.Told.{told_level_of}
 use Rattle.level_check.specs.Bodies.{told_by}
 use Rattle.level_check.proofs.Tells.{found_method, no_method}
-use Rattle.level_check.proofs.judged.seen_in.Goals as goal
+use Rattle.level_check.proofs.judged.seen_alone.Goals as goal
 
 pub seen_by-requires : goal.seen_by-requires
 seen_by-requires c =
