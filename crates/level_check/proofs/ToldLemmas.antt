@@ -1,6 +1,6 @@
 -- What visits tell, one list after the other.
 use Rattle.std.proofs.Common.{◌≡◌, ◌<◌, ◌+◌, ℕ, Bool, true, false, List, [], ◌∷◌, ◌++◌, Result, Ok, Err, length, drop, get_or, refl, sym, ap, ◌∙◌, append_assoc, arith}
-use Rattle.std.specs.Prelude.{OnOk, ◌≤◌, ◌^◌, nat_lt, max, if◌then◌else◌}
+use Rattle.std.specs.Prelude.{OnOk, ◌≤◌, ◌^◌, ◌==◌, nat_lt, max, if◌then◌else◌}
 use Rattle.std.proofs.lemmas.List.{map-append}
 use Rattle.base.proofs.Lists.{next_drop}
 use Rattle.paths.specs.Paths.{PathData}
@@ -15,7 +15,7 @@ use Rattle.rules.specs.Effect.{after_stmt, held_under}
 use Rattle.rules.specs.Near.{rel_of}
 use Rattle.levels.specs.Walks.{level_in, LevelVisit, Comes, Bad, call_visits, syncs_in, syncs_in_each, lock_class, expr_visits, exprs_visits, visits, block_visits, sync_visits}
 use Rattle.level_check.specs.declared.walk.Walk.{Walk}
-use Rattle.level_check.specs.Told.{ToldLevel, Wrong, CallTold, call_in, told_of, told, told_bad, expr_told, exprs_told, stmt_told, block_told}
+use Rattle.level_check.specs.Told.{ToldLevel, Calls, Wrong, CallTold, alone, any_of, known_to, tell_call, call_in, told_of, told, told_bad, expr_told, exprs_told, stmt_told, block_told}
 
 pub told_append : (call : CallTold) (xs ys : List LevelVisit) → told call (xs ++ ys) ≡ told call xs ++ told call ys
 told_append call xs ys = map-append (told_of call) xs ys
@@ -120,6 +120,11 @@ module _ (w : Walk) where
       ++ visits (program_of w.program.now) (rel_of w.sets.now) (level_in w.levels.now) w.slots.now (stmt_of (sym third i)) (place + syncs_in (stmt_of (sym second i))) H u))
       ∙ (λ i. expr_visits (program_of w.program.now) (rel_of w.sets.now) (expr_of a2) H u ++ (visits (program_of w.program.now) (rel_of w.sets.now) (level_in w.levels.now) w.slots.now (stmt_of b2) place H u
       ++ visits (program_of w.program.now) (rel_of w.sets.now) (level_in w.levels.now) w.slots.now (stmt_of d2) (sym place_is i) H u))) one other last
+
+-- a call of a method that others override
+pub any_told : (over : ℕ → List ℕ) (origins row : List ℕ) (m : ℕ) (known : ℕ → Held) (K : Held) (u : ℕ) → row ≡ over m → (length row == 0) ≡ false → K ≡ known_to (m ∷ origins) known → Calls (any_of m) K u ≡ tell_call over origins m known u
+any_told over origins row m known K u is some same =
+    ap (λ (f : Held). Calls (any_of m) f u) same ∙ sym (ap (λ b. if b then Calls (alone m) (known m) u else Calls (any_of m) (known_to (m ∷ origins) known) u) (ap (λ l. length l == 0) (sym is) ∙ some))
 
 -- Places.
 
