@@ -10,7 +10,7 @@ use Rattle.algebra.specs.HeldPaths.{Held, has_path}
 use Rattle.core_program.specs.Core.{Class}
 use Rattle.level_check.specs.declared.told.Callee.{Callee}
 use Rattle.level_check.specs.declared.told.Seen.{Seen}
-use Rattle.level_check.specs.Told.{ToldLevel, Calls, Wrong, alone, told_level_of}
+use Rattle.level_check.specs.Told.{ToldLevel, Calls, Wrong, itself, told_level_of}
 use Rattle.level_check.specs.declared.link.Link.{Link}
 use Rattle.level_check.specs.Greatest.{links_at}
 use Rattle.level_check.specs.declared.cells.Cell.{Cell}
@@ -78,19 +78,19 @@ begun_none = record {
   only = λ c u cell has. absurd (none-some cell has.there);
 }
 
-begun_more : (ms : List ℕ) (old new : Queue) (m at : ℕ) → AreFirstCells ms old → IsAdded old (alone m) (λ p. false) 0 at new → AreFirstCells (ms ++ m ∷ []) new
+begun_more : (ms : List ℕ) (old new : Queue) (m at : ℕ) → AreFirstCells ms old → IsAdded old (itself m) (λ p. false) 0 at new → AreFirstCells (ms ++ m ∷ []) new
 begun_more ms old new m at begun added =
-    let l = longer old (alone m) (λ p. false) 0 at new added in
+    let l = longer old (itself m) (λ p. false) 0 at new added in
     record {
       even = l.even begun.even;
-      each = λ n has. elim (Contains-append_cases ms (m ∷ []) n has) as (λ _. HasCell new.cells (alone n) (λ p. false)) [
-        | inl before ↦ let r = begun.each n before in (r.0, at_kept old.cells new.cells l.kept r.0 (alone n) (λ p. false) r.1)
-        | inr last ↦ elim (contains_cases m n [] last) as (λ _. HasCell new.cells (alone n) (λ p. false)) [
-          | inl same ↦ subst (λ k. HasCell new.cells (alone k) (λ p. false)) same (at, added.found)
+      each = λ n has. elim (Contains-append_cases ms (m ∷ []) n has) as (λ _. HasCell new.cells (itself n) (λ p. false)) [
+        | inl before ↦ let r = begun.each n before in (r.0, at_kept old.cells new.cells l.kept r.0 (itself n) (λ p. false) r.1)
+        | inr last ↦ elim (contains_cases m n [] last) as (λ _. HasCell new.cells (itself n) (λ p. false)) [
+          | inl same ↦ subst (λ k. HasCell new.cells (itself k) (λ p. false)) same (at, added.found)
           | inr none ↦ absurd (nothing_there n none)
         ]
       ];
-      only = λ c u cell has. elim (l.levels begun.even c u cell has) as (λ _. (n : ℕ) × Contains (ms ++ m ∷ []) n × (cell.callee ≡ alone n) × (set_of cell ≡ λ p. false) × (u ≡ 0)) [
+      only = λ c u cell has. elim (l.levels begun.even c u cell has) as (λ _. (n : ℕ) × Contains (ms ++ m ∷ []) n × (cell.callee ≡ itself n) × (set_of cell ≡ λ p. false) × (u ≡ 0)) [
         | inl before ↦ let r = begun.only c u cell before in (r.0, Contains-append_left ms (m ∷ []) r.0 r.1, r.2, r.3, r.4)
         | inr one ↦ (m, Contains-append_right ms (m ∷ []) m (first_there m []), one.0, one.1, one.2)
       ];
@@ -258,7 +258,7 @@ runs_to (x ∷ cs) m (suc c) class is run = Contains-append_right (run_in x.run)
 pub begun_start : (ms : List ℕ) (q : Queue) → q ≡ record { cells = []; levels = [] } → AreFirstCells (take 0 ms) q
 begun_start ms q is = subst (λ z. AreFirstCells [] z) (sym is) begun_none
 
-pub begun_step : (ms : List ℕ) (i m : ℕ) (old new : Queue) (cell : Cell) (level at : ℕ) → i < length ms → m ≡ get_or ms i m → cell.callee ≡ alone m → cell.held.items ≡ [] → level ≡ 0 → AreFirstCells (take i ms) old → IsAdded old cell.callee (set_of cell) level at new
+pub begun_step : (ms : List ℕ) (i m : ℕ) (old new : Queue) (cell : Cell) (level at : ℕ) → i < length ms → m ≡ get_or ms i m → cell.callee ≡ itself m → cell.held.items ≡ [] → level ≡ 0 → AreFirstCells (take i ms) old → IsAdded old cell.callee (set_of cell) level at new
     → AreFirstCells (take (i + 1) ms) new
 begun_step ms i m old new cell level at below is method held zero_level begun added =
     subst (λ ns. AreFirstCells ns new) (sym (next_take ms i m below is)) (begun_more (take i ms) old new m at begun

@@ -15,7 +15,7 @@ use Rattle.levels.specs.Walks.{Comes, Bad, body_visits}
 use Rattle.levels.specs.Contexts.{MayRun, Context, at_main, at_start, at_call, IsBadAt, IsOrdered, IsFirstBad}
 use Rattle.levels.proofs.GreatestLevels.{AreGreatest as AreAllGreatest, told_bad as bad_above, told_ordered}
 use Rattle.level_check.specs.declared.told.Callee.{Callee}
-use Rattle.level_check.specs.Told.{Calls, Wrong, alone, any_of, known_to, tell_call}
+use Rattle.level_check.specs.Told.{Calls, Wrong, itself, any_of, known_to, tell_call}
 use Rattle.level_check.specs.Origins.{AreOrigins}
 use Rattle.level_check.specs.declared.link.Link.{Link}
 use Rattle.level_check.specs.Greatest.{links_at, ReachedUnder, at_start as from_start, over_link, AreGreatest}
@@ -97,7 +97,7 @@ module _ (P : Program) (rel : ℕ → List PathData) (level : ℕ → ℕ) (rows
           subst (λ S. Context P rel level k S (max u w)) (sym (known_under callee known (body_named P rel level method H 0 callee known w visit) k run))
           (at_call method callee known (max u w) context is later (may_run callee k run))
 
-      by_row : (b : Bool) → (if b then Calls (alone callee) (known callee) w else Calls (any_of callee) (known_to (callee ∷ origins) known) w) ≡ Calls c K w → HasContexts c K (max u w)
+      by_row : (b : Bool) → (if b then Calls (itself callee) (known callee) w else Calls (any_of callee) (known_to (callee ∷ origins) known) w) ≡ Calls c K w → HasContexts c K (max u w)
       by_row true same =
           subst (λ z. HasContexts z K (max u w)) (ap told_callee same) (subst (λ S. Context P rel level callee S (max u w)) (ap told_set same) (at_call method callee known (max u w) context is later (inl refl)))
       by_row false same = subst (λ z. HasContexts z K (max u w)) (ap told_callee same) (subst (λ S. AreContexts false callee S (max u w)) (ap told_set same) each)
@@ -111,7 +111,7 @@ module _ (P : Program) (rel : ℕ → List PathData) (level : ℕ → ℕ) (rows
       let body = told_body (row_at rows) origins P rel level (slice_get P.methods m) H 0 (Calls c K w) has in
       let call = told_call (row_at rows) origins (body_visits P rel level body.0 H 0) c K w body.2 in
       arrives m H u body.0 call.callee call.known w c K context body.1 call.visit call.tells
-  told_contexts false m H u c K w each has = elim (contains_cases (Calls (alone m) (held_in (rel m) H) 0) (Calls c K w) (map (λ k. Calls (any_of k) H 0) (row_at rows m)) has) as (λ _. HasContexts c K (max u w)) [
+  told_contexts false m H u c K w each has = elim (contains_cases (Calls (itself m) (held_in (rel m) H) 0) (Calls c K w) (map (λ k. Calls (any_of k) H 0) (row_at rows m)) has) as (λ _. HasContexts c K (max u w)) [
     | inl same ↦
         subst (λ n. HasContexts c K n) (from_level u w (ap told_level same))
         (subst (λ z. HasContexts z K u) (ap told_callee same) (subst (λ S. Context P rel level m S u) (ap told_set same) (each m (inl refl))))
@@ -123,7 +123,7 @@ module _ (P : Program) (rel : ℕ → List PathData) (level : ℕ → ℕ) (rows
 
   -- nothing bad is told of any that may run
   none_wrong : (m : ℕ) (H : Held) (p c u : ℕ) → Contains (spread_told rel (row_at rows) m H) (Wrong p c u) → ⊥
-  none_wrong m H p c u has = elim (contains_cases (Calls (alone m) (held_in (rel m) H) 0) (Wrong p c u) (map (λ k. Calls (any_of k) H 0) (row_at rows m)) has) as (λ _. ⊥) [
+  none_wrong m H p c u has = elim (contains_cases (Calls (itself m) (held_in (rel m) H) 0) (Wrong p c u) (map (λ k. Calls (any_of k) H 0) (row_at rows m)) has) as (λ _. ⊥) [
     | inl same ↦ absurd (let e : true ≡ false = ap told_is_call same in cc)
     | inr later ↦ let r = mapped_from (λ k. Calls (any_of k) H 0) (row_at rows m) (Wrong p c u) later in absurd (let e : true ≡ false = ap told_is_call r.2 in cc)
   ]
@@ -164,7 +164,7 @@ module _ (P : Program) (rel : ℕ → List PathData) (level : ℕ → ℕ) (rows
       IsUp n H u = (c : ℕ) × IsAt q.cells c n H × (slice_get x c ≡ Some u)
 
       abbrev G : ℕ → Held → ℕ → Type 0
-      G m H u = IsUp (alone m) H u
+      G m H u = IsUp (itself m) H u
 
       g_context : (m : ℕ) (H : Held) (u : ℕ) → G m H u → Context P rel level m H u
       g_context m H u (c, at, under) =
@@ -178,10 +178,10 @@ module _ (P : Program) (rel : ℕ → List PathData) (level : ℕ → ℕ) (rows
           within : (c k l n : ℕ) → c < k → l ≡ k → n ≡ l → c < n
           within c k l n one two three = omega (arith, one, two, three)
 
-      g_cell : (m : ℕ) (H : Held) → HasCell q.cells (alone m) H → (v : ℕ) × G m H v
-      g_cell m H (c, at) = let v = levelled c (alone m) H at in (v.0, (c, at, v.1))
+      g_cell : (m : ℕ) (H : Held) → HasCell q.cells (itself m) H → (v : ℕ) × G m H v
+      g_cell m H (c, at) = let v = levelled c (itself m) H at in (v.0, (c, at, v.1))
 
-      begun_cell : (m : ℕ) → Contains (P.main ∷ runs_of P.classes) m → HasCell q.cells (alone m) (λ p. false)
+      begun_cell : (m : ℕ) → Contains (P.main ∷ runs_of P.classes) m → HasCell q.cells (itself m) (λ p. false)
       begun_cell m has = let r = begun.each m has in (r.0, record { cell = r.1.cell; there = followed.reached.kept r.0 r.1.cell r.1.there; of_callee = r.1.of_callee; set = r.1.set })
 
       -- what is told of a cell is a cell, with a level that is high enough
@@ -205,7 +205,7 @@ module _ (P : Program) (rel : ℕ → List PathData) (level : ℕ → ℕ) (rows
       -- of any that may run: each that overrides next, each that the rows lead to, and each alone
       next_up : (m k : ℕ) (T : Held) (u : ℕ) → IsUp (any_of m) T u → Contains (row_at rows m) k → (v : ℕ) × (u ≤ v) × IsUp (any_of k) T v
       next_up m k T u up has =
-          let told = contains_later (Calls (alone m) (held_in (rel m) T) 0) (Calls (any_of k) T 0) (map (λ j. Calls (any_of j) T 0) (row_at rows m)) (mapped_to (λ j. Calls (any_of j) T 0) (row_at rows m) k has) in
+          let told = contains_later (Calls (itself m) (held_in (rel m) T) 0) (Calls (any_of k) T 0) (map (λ j. Calls (any_of j) T 0) (row_at rows m)) (mapped_to (λ j. Calls (any_of j) T 0) (row_at rows m) k has) in
           let r = told_up (any_of m) T u up (any_of k) T 0 told in
           (r.0, no_lower u r.0 r.1, r.2)
 
@@ -218,7 +218,7 @@ module _ (P : Program) (rel : ℕ → List PathData) (level : ℕ → ℕ) (rows
 
       itself_up : (m : ℕ) (T : Held) (u : ℕ) → IsUp (any_of m) T u → (v : ℕ) × (u ≤ v) × G m (held_in (rel m) T) v
       itself_up m T u up =
-          let r = told_up (any_of m) T u up (alone m) (held_in (rel m) T) 0 (first_there (Calls (alone m) (held_in (rel m) T) 0) (map (λ j. Calls (any_of j) T 0) (row_at rows m))) in
+          let r = told_up (any_of m) T u up (itself m) (held_in (rel m) T) 0 (first_there (Calls (itself m) (held_in (rel m) T) 0) (map (λ j. Calls (any_of j) T 0) (row_at rows m))) in
           (r.0, no_lower u r.0 r.1, r.2)
 
       own_up : (m k : ℕ) (T : Held) (u : ℕ) → IsUp (any_of m) T u → IsUnder m k → (v : ℕ) × (u ≤ v) × G k (held_in (rel k) T) v
@@ -235,7 +235,7 @@ module _ (P : Program) (rel : ℕ → List PathData) (level : ℕ → ℕ) (rows
           low : (w : ℕ) × (later ≡ max u w) × Contains (body_visits P rel level method H 0) (Comes callee known w)
           low = (body_shifts u P rel level method H).down callee known later has
 
-          told : Contains (tell (alone m) H 0) (tell_call (row_at rows) origins callee known low.0)
+          told : Contains (tell (itself m) H 0) (tell_call (row_at rows) origins callee known low.0)
           told =
               subst (λ o. Contains (body_told P rel level (tell_call (row_at rows) origins) o H 0) (tell_call (row_at rows) origins callee known low.0)) (sym is)
               (visit_told (row_at rows) origins (body_visits P rel level method H 0) (Comes callee known low.0) low.2)
@@ -247,13 +247,13 @@ module _ (P : Program) (rel : ℕ → List PathData) (level : ℕ → ℕ) (rows
           alone_runs none (inl same) = same
           alone_runs none (inr leads) = absurd (not_empty callee k leads none)
 
-          by_row : (b : Bool) → (length (row_at rows callee) == 0) ≡ b → Contains (tell (alone m) H 0) (if b then Calls (alone callee) (known callee) low.0 else Calls (any_of callee) (known_to (callee ∷ origins) known) low.0)
+          by_row : (b : Bool) → (length (row_at rows callee) == 0) ≡ b → Contains (tell (itself m) H 0) (if b then Calls (itself callee) (known callee) low.0 else Calls (any_of callee) (known_to (callee ∷ origins) known) low.0)
               → (v : ℕ) × (later ≤ v) × G k (known k) v
           by_row true none has =
-              let r = told_up (alone m) H u up (alone callee) (known callee) low.0 has in
+              let r = told_up (itself m) H u up (itself callee) (known callee) low.0 has in
               subst (λ z. (v : ℕ) × (later ≤ v) × G z (known z) v) (sym (alone_runs none (is_under callee k run))) (r.0, high r.0 r.1, r.2)
           by_row false some has =
-              let r = told_up (alone m) H u up (any_of callee) (known_to (callee ∷ origins) known) low.0 has in
+              let r = told_up (itself m) H u up (any_of callee) (known_to (callee ∷ origins) known) low.0 has in
               let s = own_up callee k (known_to (callee ∷ origins) known) r.0 r.2 (is_under callee k run) in
               subst (λ S. (v : ℕ) × (later ≤ v) × G k S v) (known_under callee known (body_named P rel level method H 0 callee known low.0 low.2) k (is_under callee k run))
               (s.0, le_trans {n = later} {m = r.0} {k = s.0} (high r.0 r.1) s.1, s.2)
@@ -270,7 +270,7 @@ module _ (P : Program) (rel : ℕ → List PathData) (level : ℕ → ℕ) (rows
       bad_among : (m : ℕ) (H : Held) (at : ℕ) (method : Method) (place class v : ℕ) → G m H at → slice_get P.methods m ≡ Some method → Contains (body_visits P rel level method H at) (Bad place class v)
           → Contains (all_bads tell q.cells x) (record { method = m; place = place; class = class; under = v })
       bad_among m H at method place class v (c, cell, under) is has =
-          let wrong : Contains (tell (alone m) H at) (Wrong place class v) =
+          let wrong : Contains (tell (itself m) H at) (Wrong place class v) =
           subst (λ o. Contains (body_told P rel level (tell_call (row_at rows) origins) o H at) (Wrong place class v)) (sym is) (visit_told (row_at rows) origins (body_visits P rel level method H at) (Bad place class v) has) in
           let own : Contains (tell cell.cell.callee (set_of cell.cell) at) (Wrong place class v) =
           subst (λ S. Contains (tell cell.cell.callee S at) (Wrong place class v)) (sym cell.set) (subst (λ n. Contains (tell n H at) (Wrong place class v)) (sym cell.of_callee) wrong) in
@@ -296,7 +296,7 @@ module _ (P : Program) (rel : ℕ → List PathData) (level : ℕ → ℕ) (rows
               let r = bad_above P rel level G g_greatest k n c u bad in
               (r.3, r.7, bad_among k r.1 r.2 r.0 n c r.3 r.4 r.5 r.6)
 
-          by_method : (m : ℕ) (H : Held) (from : ℕ) → b.method ≡ m → G m H from → Contains (tell (alone m) H from) (Wrong b.place b.class b.under) → IsFirstBad P rel level b.method b.class b.under
+          by_method : (m : ℕ) (H : Held) (from : ℕ) → b.method ≡ m → G m H from → Contains (tell (itself m) H from) (Wrong b.place b.class b.under) → IsFirstBad P rel level b.method b.class b.under
           by_method m H from of_method up told =
               let body = told_body (row_at rows) origins P rel level (slice_get P.methods m) H from (Wrong b.place b.class b.under) told in
               let visit = told_bad (row_at rows) origins (body_visits P rel level body.0 H from) b.place b.class b.under body.2 in
@@ -313,7 +313,7 @@ module _ (P : Program) (rel : ℕ → List PathData) (level : ℕ → ℕ) (rows
             where
               by_callee : (o : Bool) → found.cell.callee.alone ≡ o → IsFirstBad P rel level b.method b.class b.under
               by_callee true is =
-                  let same : found.cell.callee ≡ alone found.cell.callee.method = λ i. record { method = found.cell.callee.method; alone = is i } in
+                  let same : found.cell.callee ≡ itself found.cell.callee.method = λ i. record { method = found.cell.callee.method; alone = is i } in
                   by_method found.cell.callee.method (set_of found.cell) found.from found.of_method (found.at, record { cell = found.cell; there = found.there; of_callee = same; set = refl }, found.level)
                   (subst (λ z. Contains (tell z (set_of found.cell) found.from) (Wrong b.place b.class b.under)) same found.told)
               by_callee false is =

@@ -15,10 +15,10 @@ use Rattle.rules.specs.Effect.{after_stmt, held_under}
 use Rattle.rules.specs.Near.{rel_of}
 use Rattle.levels.specs.Walks.{level_in, LevelVisit, Comes, Bad, call_visits, syncs_in, syncs_in_each, lock_class, expr_visits, exprs_visits, visits, block_visits, sync_visits}
 use Rattle.level_check.specs.declared.walk.Walk.{Walk}
-use Rattle.level_check.specs.Told.{ToldLevel, Calls, Wrong, CallTold, alone, any_of, known_to, tell_call, call_in, told_of, told, told_bad, expr_told, exprs_told, stmt_told, block_told}
+use Rattle.level_check.specs.Told.{ToldLevel, Calls, Wrong, CallTold, itself, any_of, known_to, tell_call, call_in, visit_tells, told, told_bad, expr_told, exprs_told, stmt_told, block_told}
 
 pub told_append : (call : CallTold) (xs ys : List LevelVisit) → told call (xs ++ ys) ≡ told call xs ++ told call ys
-told_append call xs ys = map-append (told_of call) xs ys
+told_append call xs ys = map-append (visit_tells call) xs ys
 
 on_ok : {A E F G : Type 0} (r : Result A E) → (F → G) → OnOk r F → OnOk r G
 on_ok (Ok x) f h = f h
@@ -91,7 +91,7 @@ module _ (w : Walk) where
       ++ call_visits (program_of w.program.now) (rel_of w.sets.now) m (path_of (program_of w.program.now) (expr_of a)) (paths_of (program_of w.program.now) (exprs_from args)) H u)
       → a2 ≡ a → a3 ≡ a → args2 ≡ args → args3 ≡ args
       → mid ≡ old ++ expr_told w (expr_of a2) H u → late ≡ mid ++ exprs_told w (exprs_from args2) H u
-      → OnOk r (new ≡ late ++ told_of (call_in w) (Comes m (λ k. held_under (rel_of w.sets.now k) (path_of (program_of w.program.now) (expr_of a3)) (paths_of (program_of w.program.now) (exprs_from args3)) H) u) ∷ [])
+      → OnOk r (new ≡ late ++ visit_tells (call_in w) (Comes m (λ k. held_under (rel_of w.sets.now k) (path_of (program_of w.program.now) (expr_of a3)) (paths_of (program_of w.program.now) (exprs_from args3)) H) u) ∷ [])
       → OnOk r (new ≡ old ++ told (call_in w) zs)
   call_told r H u zs a a2 a3 m args args2 args3 old mid late new is first second third fourth one other last =
       last_of_three r (call_in w) (expr_visits (program_of w.program.now) (rel_of w.sets.now) (expr_of a2) H u) (exprs_visits (program_of w.program.now) (rel_of w.sets.now) (exprs_from args2) H u)
@@ -124,7 +124,7 @@ module _ (w : Walk) where
 -- a call of a method that others override
 pub any_told : (over : ℕ → List ℕ) (origins row : List ℕ) (m : ℕ) (known : ℕ → Held) (K : Held) (u : ℕ) → row ≡ over m → (length row == 0) ≡ false → K ≡ known_to (m ∷ origins) known → Calls (any_of m) K u ≡ tell_call over origins m known u
 any_told over origins row m known K u is some same =
-    ap (λ (f : Held). Calls (any_of m) f u) same ∙ sym (ap (λ b. if b then Calls (alone m) (known m) u else Calls (any_of m) (known_to (m ∷ origins) known) u) (ap (λ l. length l == 0) (sym is) ∙ some))
+    ap (λ (f : Held). Calls (any_of m) f u) same ∙ sym (ap (λ b. if b then Calls (itself m) (known m) u else Calls (any_of m) (known_to (m ∷ origins) known) u) (ap (λ l. length l == 0) (sym is) ∙ some))
 
 -- Places.
 

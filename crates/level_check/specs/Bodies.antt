@@ -9,7 +9,7 @@ use Rattle.rules.specs.Rules.{held_in}
 use Rattle.rules.specs.Search.{row_at}
 use Rattle.levels.specs.Walks.{level_in, body_visits}
 use Rattle.level_check.specs.declared.told.Callee.{Callee}
-use Rattle.level_check.specs.Told.{ToldLevel, Calls, CallTold, alone, any_of, tell_call, told}
+use Rattle.level_check.specs.Told.{ToldLevel, Calls, CallTold, itself, any_of, tell_call, told}
 use Rattle.level_check.specs.declared.judged.Judged.{Judged}
 
 -- what the walk of a method tells at a set and under a level, where the method is there
@@ -23,7 +23,7 @@ told_by j method H under = body_told (program_of j.program.now) (rel_of j.sets.n
 
 -- any that may run for a method: itself with what it knows of the set, and any that may run for those that override it next
 abbrev pub spread_told : (ℕ → List PathData) → (ℕ → List ℕ) → ℕ → Held → List ToldLevel
-spread_told rel over m H = Calls (alone m) (held_in (rel m) H) 0 ∷ map (λ k. Calls (any_of k) H 0) (over m)
+spread_told rel over m H = Calls (itself m) (held_in (rel m) H) 0 ∷ map (λ k. Calls (any_of k) H 0) (over m)
 
 -- what is told of a callee at a set and under a level
 abbrev pub callee_told : Program → (ℕ → List PathData) → (ℕ → ℕ) → (over : ℕ → List ℕ) (origins : List ℕ) → Callee → Held → ℕ → List ToldLevel

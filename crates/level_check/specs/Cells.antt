@@ -3,7 +3,7 @@ use Rattle.std.specs.Prelude.{◌≡◌, ◌⊎◌, ◌<◌, ◌≤◌, ℕ, fal
 use Rattle.algebra.specs.HeldPaths.{Held, has_path}
 use Rattle.core_program.specs.Core.{Class}
 use Rattle.level_check.specs.declared.told.Callee.{Callee}
-use Rattle.level_check.specs.Told.{ToldLevel, Calls, Wrong, alone}
+use Rattle.level_check.specs.Told.{ToldLevel, Calls, Wrong, itself}
 use Rattle.level_check.specs.declared.link.Link.{Link}
 use Rattle.level_check.specs.Greatest.{links_at}
 use Rattle.level_check.specs.declared.cells.Cell.{Cell}
@@ -64,8 +64,8 @@ runs_of (c ∷ cs) = run_in c.run ++ runs_of cs
 -- the cells are those of these methods alone, with nothing held, under level 0
 pub record AreFirstCells (ms : List ℕ) (q : Queue) : Type 0 where
   pub even : IsEven q
-  pub each : (m : ℕ) → Contains ms m → HasCell q.cells (alone m) (λ p. false)
-  pub only : (c u : ℕ) (cell : Cell) → HasLevel q c cell u → (m : ℕ) × Contains ms m × (cell.callee ≡ alone m) × (set_of cell ≡ (λ p. false)) × (u ≡ 0)
+  pub each : (m : ℕ) → Contains ms m → HasCell q.cells (itself m) (λ p. false)
+  pub only : (c u : ℕ) (cell : Cell) → HasLevel q c cell u → (m : ℕ) × Contains ms m × (cell.callee ≡ itself m) × (set_of cell ≡ (λ p. false)) × (u ≡ 0)
 
 -- the links lead to the cells of what is called, and to no others
 pub record AreCellLinks (cells : List Cell) (told : List ToldLevel) (links : List Link) : Type 0 where

@@ -18,8 +18,8 @@ pub data ToldLevel : Type 0 where
   Wrong : ℕ → ℕ → ℕ → ToldLevel
 
 -- a method itself
-abbrev pub alone : ℕ → Callee
-alone m = record { method = m; alone = true }
+abbrev pub itself : ℕ → Callee
+itself m = record { method = m; alone = true }
 
 -- any of a method and those that override it
 abbrev pub any_of : ℕ → Callee
@@ -36,16 +36,16 @@ CallTold = ℕ → (ℕ → Held) → ℕ → ToldLevel
 -- where these methods override others next: the callee alone where none overrides it; else any that may run, with all that the callee and the origins
 -- of paths know
 abbrev pub tell_call : (over : ℕ → List ℕ) (origins : List ℕ) → CallTold
-tell_call over origins m known under = if length (over m) == 0 then Calls (alone m) (known m) under else Calls (any_of m) (known_to (m ∷ origins) known) under
+tell_call over origins m known under = if length (over m) == 0 then Calls (itself m) (known m) under else Calls (any_of m) (known_to (m ∷ origins) known) under
 
 -- what a visit tells
-abbrev pub told_of : CallTold → LevelVisit → ToldLevel
-told_of call (Comes m known under) = call m known under
-told_of call (Bad place class under) = Wrong place class under
+abbrev pub visit_tells : CallTold → LevelVisit → ToldLevel
+visit_tells call (Comes m known under) = call m known under
+visit_tells call (Bad place class under) = Wrong place class under
 
 -- what visits tell
 abbrev pub told : CallTold → List LevelVisit → List ToldLevel
-told call vs = map (told_of call) vs
+told call vs = map (visit_tells call) vs
 
 -- what a `synchronized` on a path that isn't held tells before its part: that it is bad, where the lock's level isn't above the walk's
 abbrev pub told_bad : (place class under level : ℕ) → List ToldLevel

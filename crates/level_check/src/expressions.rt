@@ -7,7 +7,7 @@ ghost use Rattle.levels.specs.Walks.{Comes};
 ghost use Rattle.rules.specs.Effect.{held_under};
 ghost use Rattle.rules.specs.Mentions.{paths_of};
 ghost use Rattle.rules.specs.Near.{rel_of};
-ghost use Rattle.level_check.specs.Told.{call_in, told_of, told_level_of, expr_told, exprs_told};
+ghost use Rattle.level_check.specs.Told.{call_in, visit_tells, told_level_of, expr_told, exprs_told};
 
 use crate::callees::{add_callee, known_to_any};
 use crate::told::Seen;
@@ -28,7 +28,7 @@ fn add_call(
 ) -> Result<(), NoMemory>
     ensures { OnOk result (let P = program_of walk.now.program.now in
         map told_level_of seen.new.items ≡ map told_level_of seen.old.items
-        ++ told_of (call_in walk.now) (Comes callee (λ k. held_under (rel_of walk.now.sets.now k) (path_of P (expr_of receiver.now)) (paths_of P (exprs_from args.now)) (has_path carried.now.held.now)) carried.now.under) ∷ []) }
+        ++ visit_tells (call_in walk.now) (Comes callee (λ k. held_under (rel_of walk.now.sets.now k) (path_of P (expr_of receiver.now)) (paths_of P (exprs_from args.now)) (has_path carried.now.held.now)) carried.now.under) ∷ []) }
 {
     let call = Called {
         receiver,

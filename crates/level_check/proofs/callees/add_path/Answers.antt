@@ -1,5 +1,5 @@
 -- A path that is there, and one that is added.
-use Rattle.std.proofs.Common.{◌≡◌, ◌∷◌, [], ◌++◌, sym, ap, ◌∙◌}
+use Rattle.std.proofs.Common.{◌∷◌, [], ◌++◌, sym, ap, ◌∙◌}
 use Rattle.algebra.specs.HeldPaths.{has_path}
 use Rattle.level_check.proofs.Missing.{path_had, path_pushed}
 use Rattle.level_check.proofs.callees.add_path.Goals as goal
