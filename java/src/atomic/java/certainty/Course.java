@@ -32,6 +32,7 @@ final class Course {
     private static final int DEEPEST = 8;
     private static final Pattern LOCKS = Pattern.compile("=\\w*Lock\\.(un)?lock\\w*");
 
+    private final Method method;
     private final Callees callees;
     private final Map<Place, Touch> touches;
     private final Set<Place> endless;
@@ -57,7 +58,6 @@ final class Course {
     /** What is held, and the branches, as the next event has them; null where it differs from those of the last one. */
     private List<Hold> heldNow;
     private Map<Integer, Integer> branchesNow;
-    private final Method method;
     private final Program program;
     private Owners owners;
     private boolean dark;
@@ -87,6 +87,13 @@ final class Course {
     /** The events in their order. */
     List<Event> events() {
         return events;
+    }
+
+    /** Whether another method never runs by itself on an object like this one, whose class has one of its own in its place. */
+    boolean replaces(Method other) {
+        Shape mine = method.owner();
+        return mine != other.owner() && mine.fits(other.owner())
+            && mine.methods().stream().anyMatch(each -> each.overridden().contains(other));
     }
 
     /** Whether it isn't known what is held: a lock is taken in no form that is known, or by a method that calls itself. */

@@ -160,11 +160,11 @@ public final class Interruptions {
 
     /** A method that tells the two steps apart; else one of two that change, one by one, the things that are looked at. */
     private List<Method> reason(Course course, Event one, Event two) {
-        Method found = between(one, two);
+        Method found = between(course, one, two);
         if (found != null) {
             return List.of(found);
         }
-        return needsBoth(course, one, two) ? oneByOne(one, two) : List.of();
+        return needsBoth(course, one, two) ? oneByOne(course, one, two) : List.of();
     }
 
     /** What the other methods do that touch both. */
@@ -193,22 +193,22 @@ public final class Interruptions {
     }
 
     /** A method that changes the first thing, where another one then changes the second: so nobody ever had the two. */
-    private List<Method> oneByOne(Event one, Event two) {
+    private List<Method> oneByOne(Course mine, Event one, Event two) {
         List<Event.Hold> around = one.around(two);
-        Method first = changing(one, around);
-        Method then = first == null ? null : changing(two, around);
+        Method first = changing(mine, one, around);
+        Method then = first == null ? null : changing(mine, two, around);
         return then == null ? List.of() : List.of(first, then);
     }
 
-    private Method changing(Event event, List<Event.Hold> around) {
+    private Method changing(Course mine, Event event, List<Event.Hold> around) {
         return touching(event).stream().filter(course -> {
             looks++;
-            return !course.isDark() && !course.isKeptOut(around)
+            return !mine.replaces(course.method()) && !course.isDark() && !course.isKeptOut(around)
                 && course.events().stream().anyMatch(other -> other.writes() && other.isSame(event));
         }).findFirst().map(Course::method).orElse(null);
     }
 
-    private Method between(Event one, Event two) {
+    private Method between(Course mine, Event one, Event two) {
         List<Event.Hold> around = one.around(two);
         List<Course> all = touching(one, two);
         if (all.isEmpty()) {
@@ -218,7 +218,8 @@ public final class Interruptions {
         Map<Course, Boolean> answers = answers(asked);
         for (Course course : all) {
             looks++;
-            if (!course.isDark() && (course.isKeptOut(around) ? tellsElsewhere(course, one, two, around)
+            boolean counts = !course.isDark() && !mine.replaces(course.method());
+            if (counts && (course.isKeptOut(around) ? tellsElsewhere(course, one, two, around)
                     : answers.computeIfAbsent(course, key -> tells(key, asked)))) {
                 return course.method();
             }

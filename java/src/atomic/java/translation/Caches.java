@@ -18,6 +18,7 @@ import java.util.HashSet;
 import java.util.List;
 import java.util.Set;
 import javax.lang.model.element.Element;
+import javax.lang.model.element.ElementKind;
 import javax.lang.model.element.ExecutableElement;
 import javax.lang.model.element.VariableElement;
 
@@ -68,7 +69,8 @@ record Caches(Services services) {
             @Override
             public Void visitMethodInvocation(MethodInvocationTree call, Void nothing) {
                 boolean own = call.getMethodSelect() instanceof IdentifierTree;
-                holds[0] &= services.attribution().element(call) instanceof ExecutableElement && services.computing().only(call);
+                holds[0] &= services.attribution().element(call) instanceof ExecutableElement symbol
+                    && (services.computing().only(call) || isSameEachTime(symbol));
                 return own ? scan(call.getArguments(), nothing) : super.visitMethodInvocation(call, nothing);
             }
 
@@ -80,6 +82,15 @@ record Caches(Services services) {
             }
         }.scan(tree, null);
         return holds[0];
+    }
+
+    /** Whether a call tells what nobody changes while a program runs, but for a test: a property of the system, an enum's values. */
+    private static boolean isSameEachTime(ExecutableElement symbol) {
+        String name = symbol.getSimpleName().toString();
+        boolean values = symbol.getEnclosingElement().getKind() == ElementKind.ENUM && name.equals("values")
+            && symbol.getParameters().isEmpty();
+        return values || symbol.getEnclosingElement().toString().equals("java.lang.System")
+            && (name.equals("getProperty") || name.equals("getenv") || name.equals("lineSeparator"));
     }
 
     /** Whether all that a local is ever given is computed so. */

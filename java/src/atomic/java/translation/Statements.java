@@ -264,6 +264,9 @@ final class Statements extends SimpleTreeVisitor<Void, Void> {
         }
         List<Part> last = new ArrayList<>();
         Part whole = body.collect(() -> body.leavings().within(tree, last, turn));
+        if (waits(whole)) {
+            services.program().endless().add(services.attribution().place(tree));
+        }
         Part part = Leavings.without(whole, last);
         List<Part> behind = Leavings.behind(part, last);
         body.emit(once ? new Part.Either(part, Part.NOTHING)
@@ -271,6 +274,11 @@ final class Statements extends SimpleTreeVisitor<Void, Void> {
         if (!behind.isEmpty()) {
             body.emit(new Part.Either(Dispatch.either(behind), Part.NOTHING));
         }
+    }
+
+    /** Whether a turn gives its lock back, and not one of a loop within it: what came before may have been an attempt. */
+    private static boolean waits(Part part) {
+        return part instanceof Part.Wait || !(part instanceof Part.Repeat) && part.parts().stream().anyMatch(Statements::waits);
     }
 
     @Override

@@ -19,7 +19,7 @@ import javax.lang.model.element.VariableElement;
 record Touches(Services services) {
     private static final Set<String> FINDING = Set.of("get", "getOrDefault", "containsKey", "contains", "containsValue");
     private static final Set<String> ADDING = Set.of("putIfAbsent", "computeIfAbsent", "addIfAbsent");
-    private static final Set<String> UPDATING = Set.of("getAndUpdate", "updateAndGet", "getAndAccumulate",
+    private static final Set<String> UPDATING = Set.of("accumulate", "getAndUpdate", "updateAndGet", "getAndAccumulate",
         "accumulateAndGet", "compute", "computeIfPresent", "merge");
     private static final Set<String> COMPARING = Set.of("compareAndSet", "weakCompareAndSet", "compareAndExchange",
         "weakCompareAndSetVolatile", "weakCompareAndSetPlain");
