@@ -56,6 +56,8 @@ final class LiveObjects {
             if (all.stream().anyMatch(each -> each.owner() != type.shape() && changesTwo(each.body(), shown))) {
                 Method way = services.blank("whoever is given this " + type.symbol().getSimpleName(), Method.Doubt.ANY);
                 services.fill(way, true);
+                givers.values().forEach(each -> services.hint(each, "live object: the caller may look at two fields of this "
+                    + type.symbol().getSimpleName() + " one by one, while others change both in one region"));
                 all.stream().filter(each -> givers.containsKey(services.methods().origin(each))).forEach(each ->
                     each.body(Part.sequence(List.of(each.body(), new Part.Call(new Value.Opaque(services.program().helpers()), way,
                         List.of(), services.attribution().name(givers.get(services.methods().origin(each))))))));
