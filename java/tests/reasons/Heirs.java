@@ -114,6 +114,51 @@ public class Heirs {
         }
     }
 
+    public static final class Queue {
+        private final List<String> names = new ArrayList<>();
+        private long put;
+        private long taken;
+        private long left;
+
+        public synchronized void put(String name) { // accepted
+            names.add(name);
+            put++;
+            left++;
+        }
+
+        public synchronized void take() { // accepted
+            if (!names.isEmpty()) {
+                names.remove(0);
+                taken++;
+                left--;
+            }
+        }
+
+        private synchronized long put() {
+            return put;
+        }
+
+        private synchronized long taken() {
+            return taken;
+        }
+
+        private synchronized long left() {
+            return left;
+        }
+
+        public boolean isEmpty() { // refused: perhaps: neither number falls
+            return taken() == put();
+        }
+
+        public long size() { // refused: certain: nobody ever had this difference
+            return put() - taken();
+        }
+
+        public boolean isHalf() { // refused: certain: what is left may fall
+            return taken() == left();
+        }
+    }
+
     public static final class Banner {
         private volatile String text;
 

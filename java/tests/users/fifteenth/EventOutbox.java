@@ -120,7 +120,7 @@ public class EventOutbox<E> implements Iterable<EventOutbox.Envelope<E>> {
         }
     }
 
-    public boolean isDrained() { // refused: certain: two regions, yet both numbers only grow and published <= nextId-1: equal means drained at the first look, unequal means not drained at some moment up to the second look (a purely lock-based reasoner would not see that)
+    public boolean isDrained() { // refused: alarm: two regions, yet both numbers only grow and published <= nextId-1: equal means drained at the first look, unequal means not drained at some moment up to the second look (a purely lock-based reasoner would not see that)
         return published() == lastId();
     }
 

@@ -131,6 +131,9 @@ final class Expressions extends SimpleTreeVisitor<Value, Void> {
 
     @Override
     public Value visitBinary(BinaryTree tree, Void nothing) {
+        if (new GrowingNumbers(services).leavesOut(tree)) {
+            return value(tree.getRightOperand());
+        }
         Value left = value(tree.getLeftOperand());
         switch (tree.getKind()) {
             case CONDITIONAL_AND, CONDITIONAL_OR -> perhaps(body.collect(() -> value(tree.getRightOperand())));
