@@ -276,4 +276,18 @@ public class Shapes {
         public Builder name(String n) { name = n; return this; } // accepted
         public String build() { return name + size; } // refused: perhaps: one thread's own
     }
+
+    /** What is only called a builder, and has an heir that threads share. */
+    public abstract static class AbstractTextBuilder {
+        int size;
+        String name;
+        AbstractTextBuilder size(int n) { size = n; return this; }
+        AbstractTextBuilder name(String n) { name = n; size = n.length(); return this; }
+        public String text() { return name + size; } // refused: certain: the two may be changed in between
+    }
+
+    /** Such an heir. */
+    public static final class SharedText extends AbstractTextBuilder {
+        public AbstractTextBuilder named(String n) { return name(n); } // refused: certain: two changes, and a look at both
+    }
 }

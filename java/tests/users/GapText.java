@@ -38,7 +38,7 @@ public class GapText implements CharSequence, Comparable<GapText> {
         return chars[index < gapStart ? index : index + gapEnd - gapStart];
     }
 
-    public synchronized void insert(int at, CharSequence text) { // accepted
+    public synchronized void insert(int at, CharSequence text) { // refused: fault: the text may be another buffer, which changes meanwhile
         moveGap(at);
         int length = text.length();
         reserve(length);

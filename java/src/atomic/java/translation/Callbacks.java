@@ -102,8 +102,7 @@ final class Callbacks {
         boolean known = called.object() instanceof Value.Owned || called.object() instanceof Value.Fresh;
         Choice.Kind kind = called.choice().kind();
         if (known || services.program().sure() || symbol.getModifiers().contains(Modifier.STATIC) || kind == Choice.Kind.READS
-                || kind == Choice.Kind.WRITES || kind == Choice.Kind.COMPOUND || kind == Choice.Kind.ASSUMED
-                || called.choice().elsewhere()
+                || kind == Choice.Kind.WRITES || kind == Choice.Kind.COMPOUND || called.choice().elsewhere()
                 || !(called.at() instanceof MethodInvocationTree call)
                 || !(call.getMethodSelect() instanceof MemberSelectTree select)
                 || Calls.isSuper(select)

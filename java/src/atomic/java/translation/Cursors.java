@@ -50,9 +50,14 @@ final class Cursors {
             && services.uses().of(field).stream().allMatch(use -> isWithin(use, owner));
     }
 
-    /** Whether one thread alone has an object of a class: a builder by its name, or an iterator. */
+    /** Whether one thread alone has an object of a class: a builder by its name, and those of all its heirs, or an iterator. */
     private boolean isOfOne(TypeElement owner) {
-        return known.computeIfAbsent(owner, key -> key.getSimpleName().toString().endsWith("Builder") || walks(key));
+        return known.computeIfAbsent(owner, key -> builds(key) && services.families().below(services.program().find(key)).stream()
+            .allMatch(each -> builds(each.symbol())) || walks(key));
+    }
+
+    private static boolean builds(TypeElement owner) {
+        return owner.getSimpleName().toString().endsWith("Builder");
     }
 
     /** Whether a class is an iterator, or what iterators alone are made of: an abstract one of which each heir is one. */
