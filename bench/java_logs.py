@@ -11,6 +11,7 @@ from dataclasses import dataclass
 from pathlib import Path
 
 ACCESSES = ("read", "write", "change")
+LOCKS = ("take", "give")
 UNJUDGED = ("enter", "leave", "failed", "stopped")
 
 
@@ -53,15 +54,19 @@ def events_of(path: Path) -> list[Event]:
 @dataclass(frozen=True)
 class Sharing:
     """Which objects several threads touch: for each the line in which the second one comes, and the last line in front
-    of that in which the first one touches it; and the places that are written from then on."""
+    of that in which the first one touches it, and in which it changes it; and the places that are written from then on.
+    Of each lock the line in which the second one comes to it, or to the object whose monitor it is."""
 
     since: dict[str, int]
     alone: dict[str, tuple[str, int]]
+    filled: dict[str, int]
     written: set[str]
+    locks: dict[str, int]
 
     def is_alone(self, event: Event, line: int) -> bool:
-        """Whether no other thread has touched the object of this access before a line."""
-        return event.object not in self.since or line < self.since[event.object]
+        """Whether no other thread has touched the object of this access, or come to this lock, before a line."""
+        since = self.locks if event.action in LOCKS else self.since
+        return event.object not in since or line < since[event.object]
 
     def is_early(self, event: Event) -> bool:
         """Whether this is an access of an object that no other thread has touched yet."""
@@ -72,16 +77,22 @@ class Sharing:
         return not self.is_early(event) and event.target in self.written
 
 
-def sharing_of(events: list[Event]) -> Sharing:
-    """The objects that several threads touch."""
-    found = Sharing({}, {}, set())
+def sharing_of(events: list[Event], told: set[int]) -> Sharing:
+    """The objects that several threads touch. What is written in these lines, which are told as errors, is left out."""
+    found = Sharing({}, {}, {}, set(), {})
+    first: dict[str, str] = {}
+    for event in (each for each in events if each.action in ACCESSES + LOCKS):
+        if first.setdefault(event.object, event.thread) != event.thread:
+            found.locks.setdefault(event.object, event.line)
     for event in (each for each in events if each.action in ACCESSES):
         if event.object not in found.since:
             if found.alone.setdefault(event.object, (event.thread, event.line))[0] == event.thread:
                 found.alone[event.object] = (event.thread, event.line)
+                if event.action != "read":
+                    found.filled[event.object] = event.line
             else:
                 found.since[event.object] = event.line
-        if event.object in found.since and event.action != "read":
+        if event.object in found.since and event.action != "read" and event.line not in told:
             found.written.add(event.target)
     return found
 
@@ -106,24 +117,31 @@ def guards_of(events: list[Event], told: set[int], actions: tuple[str, ...], sha
     return guards
 
 
+def is_guarded(event: Event, held: dict[str, int], guards: dict[str, set[str]], writers: dict[str, set[str]]) -> bool:
+    """Whether an access holds a lock that each access of its place holds, or a read one that each write holds."""
+    needed = guards.get(event.target, set()) | (writers.get(event.target, set()) if event.action == "read" else set())
+    return bool(needed & set(held))
+
+
 def kinds_of(events: list[Event], told: set[int], sharing: Sharing) -> dict[int, str]:
     """The kind of each event by its line: right, left, both, or none of them; early, where no other thread has touched
-    the object yet."""
+    the object yet, and no lock is held that is held at each later access."""
     guards, kinds = guards_of(events, told, ACCESSES, sharing), {}
     writers = guards_of(events, told, ("write", "change"), sharing)
     for event, held in with_held(events):
         kind = "both"
-        if event.action == "take" and not held.get(event.target):
+        if event.action in LOCKS and sharing.is_alone(event, event.line):
+            kind = "early"
+        elif event.action == "take" and not held.get(event.target):
             kind = "right"
         elif event.action == "give" and held.get(event.target) == 1 or event.action == "start":
             kind = "left"
         elif event.action == "join":
             kind = "right"
         elif event.action in ACCESSES and sharing.is_early(event):
-            kind = "early"
-        elif event.action in ACCESSES and sharing.is_seen(event) and not guards.get(event.target):
-            alone = event.action == "read" and writers.get(event.target, set()) & set(held)
-            kind = "both" if alone else "none"
+            kind = "both" if is_guarded(event, held, guards, writers) else "early"
+        elif event.action in ACCESSES and sharing.is_seen(event):
+            kind = "both" if is_guarded(event, held, guards, writers) else "none"
         kinds[event.line] = kind
     return kinds
 
@@ -182,8 +200,9 @@ def comes_later(event: Event, kind: str, behind: Event, sharing: Sharing) -> boo
 
 def comes_earlier(event: Event, kind: str, behind: Event, sharing: Sharing) -> bool:
     """Whether a step can be moved earlier, up to another one of its thread. What others did with the object while it
-    was their own has to stand in front of that: they hold no lock then."""
+    was their own has to stand in front of that: they hold no lock then. Two looks can always change places."""
     owner, last = sharing.alone.get(event.object, (event.thread, 0)) if event.action in ACCESSES else (event.thread, 0)
+    last = sharing.filled.get(event.object, 0) if event.action == "read" else last
     return kind == "early" or kind in ("left", "both") and (owner == event.thread or last < behind.line)
 
 

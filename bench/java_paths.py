@@ -9,10 +9,9 @@ from collections.abc import Callable
 from dataclasses import dataclass, replace
 from pathlib import Path
 
-from java_logs import ACCESSES, Event, Sharing
+from java_logs import ACCESSES, LOCKS, Event, Sharing
 
 TOKEN = re.compile(r"[()]|[^\s()]+")
-LOCKS = ("take", "give")
 
 
 @dataclass(frozen=True)
@@ -108,8 +107,11 @@ class Walk:
         return known
 
     def behind_sync(self, part: Part, starts: set[int]) -> set[int]:
-        """A lock around the part; steps stand in it whether the log has the lock or not."""
+        """A lock around the part; steps stand in it whether the log has the lock or not. What a library's object does
+        within its own monitor stands at the place of that."""
+        place = part.words[0]
         inner = self.behind(part.parts[0], self.stepped(starts, "take", ""))
+        inner = self.taken_while(inner, lambda event: event.action in ACCESSES and event.place == place)
         return self.stepped(inner, "give", "")
 
     def behind_read(self, part: Part, starts: set[int]) -> set[int]:
@@ -202,6 +204,7 @@ def without_helpers(events: list[Event], helpers: set[str]) -> list[Event]:
 def unseen(methods: list[Method], events: list[Event], sharing: Sharing, place: str) -> Event | None:
     """The first event of a block that isn't on any path of the method at a place; none where all are."""
     steps = [event for event in events if event.action not in ACCESSES or sharing.is_seen(event)]
+    steps = [event for event in steps if event.action not in LOCKS or not sharing.is_alone(event, event.line)]
     steps = without_helpers(steps, {each.place for each in methods if each.helper})
     steps = [event for event in steps if event.action not in ("start", "join", "failed", "stopped")]
     if steps and steps[-1].action in ("end", "leave"):

@@ -94,7 +94,7 @@ def look(source: Judged, log: Path, counts: Counts) -> str:
         if event.action in ("begin", "enter") and int(event.target.rpartition("@")[2].split(":")[0]) in source.unguarded
     }
     told = {event.line for block in blocks_of(events, unguarded) for event in block.events}
-    sharing = sharing_of(events)
+    sharing = sharing_of(events, told)
     kinds = kinds_of(events, told, sharing)
     counts.runs += 1
     for block in blocks_of(events, promised):

@@ -2,10 +2,12 @@ package atomic.trace;
 
 import java.util.ArrayList;
 import java.util.HashMap;
+import java.util.Hashtable;
 import java.util.IdentityHashMap;
 import java.util.List;
 import java.util.Map;
 import java.util.Random;
+import java.util.Vector;
 import java.util.concurrent.Semaphore;
 import java.util.function.BooleanSupplier;
 
@@ -142,6 +144,28 @@ final class Scheduler {
         holding.owner = self;
         holding.count++;
         log.add(self.name, "take " + log.name(lock), place);
+    }
+
+    /** Whether an object takes its own monitor for all that it does. */
+    private static boolean takesItsMonitor(Object object) {
+        return object instanceof StringBuffer || object instanceof Vector || object instanceof Hashtable
+            || object != null && object.getClass().getName().startsWith("java.util.Collections$Synchronized");
+    }
+
+    /** A step of an object, which may take its monitor for that. */
+    void within(String place, Object lock, Runnable step) {
+        if (!takesItsMonitor(lock)) {
+            step.run();
+            return;
+        }
+        Worker self = self();
+        Holding holding = locks.computeIfAbsent(lock, key -> new Holding());
+        if (holding.owner != null && holding.owner != self) {
+            giveTurn(self, () -> holding.owner == null, "wants " + log.name(lock));
+        }
+        log.add(self.name, "take " + log.name(lock), place);
+        step.run();
+        log.add(self.name, "give " + log.name(lock), place);
     }
 
     boolean tryTake(String place, Object given) {

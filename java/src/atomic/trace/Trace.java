@@ -108,6 +108,10 @@ public final class Trace {
     }
 
     private static void called(String place, String kind, Object object) {
+        scheduler.within(place, object, () -> did(place, kind, object));
+    }
+
+    private static void did(String place, String kind, Object object) {
         String name = self().name;
         String where = log.name(object) + ".contents";
         if (kind.equals("reads")) {

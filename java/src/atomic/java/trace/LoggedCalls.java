@@ -25,6 +25,7 @@ final class LoggedCalls {
     private static final String TRACE = "atomic.trace.Trace.";
     private static final Set<String> LOCK_CALLS = Set.of("lock", "lockInterruptibly", "tryLock", "unlock");
     private static final Set<String> ATTEMPTS = Set.of("compareAndSet", "weakCompareAndSetVolatile");
+    private static final Set<String> LOOKS = Set.of("get", "getOrDefault", "containsKey", "contains");
     private static final Set<String> UPDATES = Set.of("getAndUpdate", "updateAndGet", "getAndAccumulate", "accumulateAndGet");
     private static final String CONDITION = "java.util.concurrent.locks.Condition";
     private final LoggedCopy copy;
@@ -94,8 +95,8 @@ final class LoggedCalls {
         ExpressionTree object = call.getMethodSelect() instanceof MemberSelectTree member ? member.getExpression() : null;
         TypeMirror type = isStatic || object == null ? called.getEnclosingElement().asType() : copy.attribution().type(object);
         Choice choice = type == null ? Choice.UNKNOWN : library.choose(type, name);
-        boolean attempt = ATTEMPTS.contains(name) && choice.kind() == Choice.Kind.STEP && call.getArguments().size() == 2;
-        boolean looks = name.equals("get") && choice.kind() == Choice.Kind.STEP && call.getArguments().isEmpty();
+        boolean attempt = choice.kind() == Choice.Kind.STEP && isAttempt(name, call.getArguments().size());
+        boolean looks = choice.kind() == Choice.Kind.STEP && LOOKS.contains(name);
         boolean updates = UPDATES.contains(name) && owner(called).startsWith("java.util.concurrent.atomic.");
         boolean single = choice.kind() == Choice.Kind.COMPOUND && singles.contains(copy.attribution().name(call));
         String kind = attempt ? "tries" : looks ? "reads" : updates || single ? "step" : kind(choice);
@@ -110,6 +111,11 @@ final class LoggedCalls {
         String through = TRACE + (last ? "on(" : "calling(" + place) + copy.of(object) + ").";
         String whole = through + name + arguments(call, choice, last ? TRACE + "callingWith(" + place : "");
         return attempt ? TRACE + "tried(" + copy.at(call) + ", " + whole + ")" : whole;
+    }
+
+    /** Whether a call changes something only if nobody came in between, and tells whether it did. */
+    private static boolean isAttempt(String name, int given) {
+        return ATTEMPTS.contains(name) && given == 2 || name.equals("replace") && given == 3 || name.equals("remove") && given == 2;
     }
 
     private static String owner(Element called) {

@@ -10,7 +10,7 @@ import java.util.Set;
 
 /**
  * A skeleton's methods as lines for those who compare logs with it: {@code method LINE:COLUMN NAME}, and behind it the body in
- * parentheses: {@code (seq ..)}, {@code (or A B)}, {@code (rep A)}, {@code (sync A)}, {@code (read LINE:COLUMN)},
+ * parentheses: {@code (seq ..)}, {@code (or A B)}, {@code (rep A)}, {@code (sync LINE:COLUMN A)}, {@code (read LINE:COLUMN)},
  * {@code (write LINE:COLUMN)}, {@code (wait)} and {@code (call LINE:COLUMN TARGET)}, where TARGET is the number of a line, from 0 on.
  * Behind the methods stands {@code repeat LINE:COLUMN LINE:COLUMN} for each look that is no step where the second place is next,
  * and {@code helper LINE:COLUMN -} for each method whose body is written where it is called.
@@ -51,8 +51,8 @@ final class SkeletonText {
             return "or";
         } else if (part instanceof Part.Repeat) {
             return "rep";
-        } else if (part instanceof Part.Region) {
-            return "sync";
+        } else if (part instanceof Part.Region region) {
+            return "sync " + place(region.place());
         } else if (part instanceof Part.Access access) {
             return (access.write() ? "write " : "read ") + place(access.place());
         } else if (part instanceof Part.Call call) {

@@ -123,6 +123,7 @@ final class Locking {
             }
             all.add(lock);
         }
+        services.methods().helper(helper.place());
         return all;
     }
 
