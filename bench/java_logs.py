@@ -194,8 +194,9 @@ def counted(events: list[Event], repeats: dict[str, str]) -> list[Event]:
 
 def comes_later(event: Event, kind: str, behind: Event, sharing: Sharing) -> bool:
     """Whether a step can be moved later, up to another one of its thread. One of an object that is the thread's own
-    until then can."""
-    return kind in ("right", "both") or kind == "early" and sharing.is_alone(event, behind.line)
+    until then can, and so can the taking of a lock."""
+    early = kind == "early" and (event.action == "take" or sharing.is_alone(event, behind.line))
+    return kind in ("right", "both") or early
 
 
 def comes_earlier(event: Event, kind: str, behind: Event, sharing: Sharing) -> bool:
