@@ -130,11 +130,10 @@ def kinds_of(events: list[Event], told: set[int], sharing: Sharing) -> dict[int,
     writers = guards_of(events, told, ("write", "change"), sharing)
     for event, held in with_held(events):
         kind = "both"
-        if event.action in LOCKS and sharing.is_alone(event, event.line):
-            kind = "early"
-        elif event.action == "take" and not held.get(event.target):
-            kind = "right"
-        elif event.action == "give" and held.get(event.target) == 1 or event.action == "start":
+        if event.action in LOCKS and held.get(event.target, 0) == (0 if event.action == "take" else 1):
+            alone = sharing.is_alone(event, event.line)
+            kind = "early" if alone else "right" if event.action == "take" else "left"
+        elif event.action == "start":
             kind = "left"
         elif event.action == "join":
             kind = "right"

@@ -9,10 +9,10 @@ package atomic.java.library;
  * @param fills whether it writes into the objects among its arguments
  * @param keeps whether it keeps what it is given, so that others may reach it from then on
  * @param elsewhere whether the functions that it is given run in another thread, which is told
- * @param points whether it only points at the first thing that it is given, so that nobody gets that from it
+ * @param borrows whether nobody gets the first thing that it is given from it, then or later
  * @param makes the class of the new object that it gives, or null
  */
-public record Choice(Kind kind, boolean calls, boolean once, boolean fills, boolean keeps, boolean elsewhere, boolean points, String makes) {
+public record Choice(Kind kind, boolean calls, boolean once, boolean fills, boolean keeps, boolean elsewhere, boolean borrows, String makes) {
 
     /** The steps of a call. */
     public enum Kind {
@@ -63,7 +63,7 @@ public record Choice(Kind kind, boolean calls, boolean once, boolean fills, bool
         boolean fills = false;
         boolean keeps = false;
         boolean elsewhere = false;
-        boolean points = false;
+        boolean borrows = false;
         String makes = null;
         for (int k = 1; k < words.length; k++) {
             switch (words[k]) {
@@ -72,7 +72,7 @@ public record Choice(Kind kind, boolean calls, boolean once, boolean fills, bool
                 case "fills" -> fills = true;
                 case "keeps" -> keeps = true;
                 case "elsewhere" -> elsewhere = true;
-                case "points" -> points = true;
+                case "borrows" -> borrows = true;
                 default -> {
                     if (!words[k].startsWith("makes=")) {
                         throw new IllegalArgumentException(words[k]);
@@ -82,6 +82,6 @@ public record Choice(Kind kind, boolean calls, boolean once, boolean fills, bool
             }
         }
         return new Choice(Kind.valueOf(words[0].toUpperCase(java.util.Locale.ROOT)), calls || once, once, fills, keeps,
-            elsewhere, points, makes);
+            elsewhere, borrows, makes);
     }
 }

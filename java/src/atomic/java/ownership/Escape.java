@@ -126,7 +126,7 @@ public final class Escape {
         Tree parent = attribution.parent(use);
         if (parent instanceof MemberSelectTree select) {
             return asReceiver(select);
-        } else if (new Pointers(program, uses).isPointed(use)) {
+        } else if (new Borrowers(program, uses, this::keeps).borrow(use)) {
             return NEVER;
         } else if (parent instanceof MethodInvocationTree call) {
             return asArgument(call, use);

@@ -80,7 +80,7 @@ final class Keepers {
         } else if (bare instanceof NewClassTree made) {
             JavaClass known = program.find(attribution.type(made));
             return made.getClassBody() != null || known != null && known.hasOuterObject()
-                || made.getArguments().stream().anyMatch(each -> knows(each) && !new Pointers(program, uses).isPointed(each));
+                || made.getArguments().stream().anyMatch(each -> knows(each) && !new Borrowers(program, uses, any -> true).borrow(each));
         }
         return bare instanceof LambdaExpressionTree || bare instanceof MemberReferenceTree || Uses.isName(bare, "this")
             || is(attribution.element(bare));

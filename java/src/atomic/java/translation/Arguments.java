@@ -40,6 +40,9 @@ final class Arguments {
         if (called.choice().kind() == Choice.Kind.UNKNOWN || called.choice().kind() == Choice.Kind.VIEW) {
             return;
         }
+        if (called.choice().borrows() && !values.isEmpty() && values.get(0) instanceof Value.Owned) {
+            services.tell(Notes.Kind.ASSUMED, body, called.at(), called.shown() + " keeps nothing of what it is given");
+        }
         boolean handle = called.shown().startsWith("VarHandle.");
         for (int k = 0; k < values.size(); k++) {
             boolean fills = handle ? k == 0 : called.choice().fills() && k == filled(called);

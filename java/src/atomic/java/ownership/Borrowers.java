@@ -9,27 +9,32 @@ import com.sun.source.tree.MethodInvocationTree;
 import com.sun.source.tree.NewClassTree;
 import com.sun.source.tree.Tree;
 import java.util.List;
+import java.util.function.Predicate;
 import javax.lang.model.element.Element;
 import javax.lang.model.element.ElementKind;
 import javax.lang.model.element.ExecutableElement;
 
 /**
- * What only points at an object, as a cleaner and a phantom reference do: nobody gets the object from it. So does a constructor that
- * does nothing with a parameter but to compare it and to give it to such a one.
+ * What is given an object that nobody gets from it: a cleaner and a phantom reference, which only point at it, and a stream, which only
+ * takes what is in an array. So it is with a constructor that does nothing with a parameter but to compare it and to give it to such
+ * a one.
  */
-final class Pointers {
+final class Borrowers {
     private final Program program;
     private final Attribution attribution;
     private final Uses uses;
+    private final Predicate<Element> keeps;
 
-    Pointers(Program program, Uses uses) {
+    /** {@code keeps} says whether a parameter's object gets away in its method. */
+    Borrowers(Program program, Uses uses, Predicate<Element> keeps) {
         this.program = program;
         this.uses = uses;
+        this.keeps = keeps;
         attribution = program.attribution();
     }
 
-    /** Whether what an expression gives is only pointed at by what it is given to. */
-    boolean isPointed(Tree use) {
+    /** Whether nobody gets what an expression gives from what it is given to. */
+    boolean borrow(Tree use) {
         Tree parent = attribution.parent(use);
         if (byLibrary(use, parent)) {
             return true;
@@ -40,10 +45,10 @@ final class Pointers {
         boolean known = constructor != null && !constructor.symbol().isVarArgs()
             && constructor.owner().symbol().getKind() != ElementKind.RECORD;
         int at = known ? ((NewClassTree) parent).getArguments().indexOf(use) : -1;
-        return at >= 0 && onlyPoints(constructor.symbol().getParameters().get(at));
+        return at >= 0 && onlyLends(constructor.symbol().getParameters().get(at));
     }
 
-    private boolean onlyPoints(Element parameter) {
+    private boolean onlyLends(Element parameter) {
         Tree home = program.around(uses.declaration(parameter));
         return uses.of(parameter).stream().allMatch(use -> {
             Tree parent = attribution.parent(use);
@@ -52,7 +57,7 @@ final class Pointers {
         });
     }
 
-    /** Whether this is the first thing that a library's call or constructor is given which only points at that. */
+    /** Whether this is the first thing that a library's call or constructor is given from which nobody gets it. */
     private boolean byLibrary(Tree use, Tree parent) {
         List<? extends Tree> given = parent instanceof MethodInvocationTree call ? call.getArguments()
             : parent instanceof NewClassTree made ? made.getArguments() : List.of();
@@ -62,6 +67,14 @@ final class Pointers {
         }
         String key = symbol.getKind() == ElementKind.CONSTRUCTOR ? "new" : Library.key(symbol);
         Choice choice = program.library().choose(symbol.getEnclosingElement().asType(), key);
-        return choice.points();
+        boolean assumed = choice.kind() == Choice.Kind.COMPOUND;
+        return choice.borrows() && !(assumed && (program.options().strict() || isKeptAtHand(symbol)));
+    }
+
+    /** Whether a class at hand has a method in place of this one that keeps what it is given. */
+    private boolean isKeptAtHand(ExecutableElement symbol) {
+        return program.named(symbol.getSimpleName()).stream().anyMatch(each -> each.isVirtual()
+            && attribution.elements().overrides(each.symbol(), symbol, each.owner().symbol())
+            && (each.tree().getBody() == null || keeps.test(each.symbol().getParameters().get(0))));
     }
 }
