@@ -67,6 +67,12 @@ def repeats_of(path: Path) -> dict[str, str]:
     return {word[1]: word[2] for word in words if word[0] == "repeat"}
 
 
+def lent_of(path: Path) -> frozenset[str]:
+    """The places at which a method uses what it is given, whose steps stand where that is given to it."""
+    words = (line.split(" ") for line in path.read_text(encoding="utf-8").splitlines())
+    return frozenset(word[1] for word in words if word[0] == "lent")
+
+
 class Walk:
     """Walks through skeletons along the events of one block."""
 
@@ -201,9 +207,13 @@ def without_helpers(events: list[Event], helpers: set[str]) -> list[Event]:
     return kept
 
 
-def unseen(methods: list[Method], events: list[Event], sharing: Sharing, place: str) -> Event | None:
-    """The first event of a block that isn't on any path of the method at a place; none where all are."""
-    steps = [event for event in events if event.action not in ACCESSES or sharing.is_seen(event)]
+def unseen(
+    methods: list[Method], events: list[Event], sharing: Sharing, place: str, lent: frozenset[str]
+) -> Event | None:
+    """The first event of a block that isn't on any path of the method at a place; none where all are. What stands at a
+    place that is lent is told elsewhere."""
+    steps = [event for event in events if event.action not in ACCESSES or event.place not in lent]
+    steps = [event for event in steps if event.action not in ACCESSES or sharing.is_seen(event)]
     steps = [event for event in steps if event.action not in LOCKS or not sharing.is_alone(event, event.line)]
     steps = without_helpers(steps, {each.place for each in methods if each.helper})
     steps = [event for event in steps if event.action not in ("start", "join", "failed", "stopped")]

@@ -18,7 +18,7 @@ from dataclasses import dataclass, field
 from pathlib import Path
 
 from java_logs import as_log, behind_waits, blocks_of, counted, events_of, is_reducible, kinds_of, sharing_of
-from java_paths import Method, repeats_of, skeleton_of, unseen
+from java_paths import Method, lent_of, repeats_of, skeleton_of, unseen
 from java_sources import PROGRAM, TOP, run
 
 TESTS = TOP / "java" / "tests"
@@ -42,8 +42,8 @@ class Counts:
 
 @dataclass(frozen=True)
 class Judged:
-    """A source that was judged: its file, the class that is run, the lines of its errors, its skeleton, and the looks
-    in it that are no step where another place is next."""
+    """A source that was judged: its file, the class that is run, the lines of its errors, its skeleton, the looks in it
+    that are no step where another place is next, and the places of steps that stand elsewhere in it."""
 
     path: Path
     name: str
@@ -51,6 +51,7 @@ class Judged:
     unguarded: frozenset[int]
     skeleton: list[Method]
     repeats: dict[str, str]
+    lent: frozenset[str]
 
 
 def judge(path: Path, folder: Path, program: Path) -> Judged | None:
@@ -67,7 +68,7 @@ def judge(path: Path, folder: Path, program: Path) -> Judged | None:
     unguarded = frozenset(line.line for line in errors if line.text.endswith("found error"))
     skeleton = folder / "skeleton.txt"
     refused = frozenset(line.line for line in errors)
-    return Judged(path, name, refused, unguarded, skeleton_of(skeleton), repeats_of(skeleton))
+    return Judged(path, name, refused, unguarded, skeleton_of(skeleton), repeats_of(skeleton), lent_of(skeleton))
 
 
 def compiled(folder: Path, archive: Path) -> bool:
@@ -110,7 +111,7 @@ def look(source: Judged, log: Path, counts: Counts) -> str:
         counts.steps += len(block.events)
         if not reducible:
             counts.wrong.append(f"{log.name}: {block.name} in line {block.events[0].line} isn't reducible")
-        missing = unseen(source.skeleton, steps, sharing, block.name.rpartition("@")[2])
+        missing = unseen(source.skeleton, steps, sharing, block.name.rpartition("@")[2], source.lent)
         if missing:
             counts.wrong.append(
                 f"{log.name}:{missing.line}: {block.name}: the skeleton lacks {missing.action} {missing.target} "

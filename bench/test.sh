@@ -93,7 +93,10 @@ run_java() {
     needs python3 python3 javac openjdk-17-jdk-headless || return 1
     bench/java.sh && python3 bench/test_java.py && python3 bench/java_random.py --count 40 --batch 20 \
         && python3 bench/java_traces.py --runs 4 java/tests/larger/RingBuffer.java java/tests/larger/TicketOffice.java \
-            java/tests/users/Bank.java java/tests/users/RecentCache.java java/tests/users/Branch.java
+            java/tests/users/Bank.java java/tests/users/RecentCache.java java/tests/users/Branch.java \
+            java/tests/users/first/LatencyMetrics.java java/tests/users/first/UndoableText.java \
+            java/tests/users/second/TextLog.java java/tests/users/eighth/TransferDesk.java \
+            java/tests/users/tenth/LinePad.java
 }
 
 asks=''

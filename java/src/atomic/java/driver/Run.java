@@ -52,7 +52,7 @@ public final class Run {
         Program program = new Program(attribution, options, false);
         Methods methods = skeleton(program);
         if (options.log() != null) {
-            new Copies(attribution, program.library(), tree -> methods.promises(program.method(attribution.element(tree))))
+            new Copies(program, tree -> methods.promises(program.method(attribution.element(tree))))
                 .write(options.log(), all(program), methods.repeats(), methods.helpers());
         }
         if (options.explain() != null) {

@@ -21,6 +21,7 @@ import java.util.LinkedHashMap;
 import java.util.List;
 import java.util.Map;
 import java.util.Set;
+import java.util.TreeSet;
 import javax.lang.model.element.Element;
 import javax.lang.model.element.ElementKind;
 import javax.lang.model.element.ExecutableElement;
@@ -47,6 +48,7 @@ public final class Program {
     private final Overriding overriding;
     private final Map<Place, Touch> touches = new HashMap<>();
     private final Set<Place> endless = new HashSet<>();
+    private final Set<Place> lent = new TreeSet<>();
     private final Shape object = new Shape("Object", null);
     private final Shape statics = new Shape("Statics", null);
     private final Shape helpers = new Shape("Library", null);
@@ -227,6 +229,11 @@ public final class Program {
     /** The places of loops that only end where a turn leaves them: turns before that may have been attempts. */
     public Set<Place> endless() {
         return endless;
+    }
+
+    /** Where a method uses what it is lent: these steps stand where that is given to it. */
+    public Set<Place> lent() {
+        return lent;
     }
 
     /** All classes of the skeleton. */

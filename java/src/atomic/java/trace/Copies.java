@@ -2,9 +2,9 @@ package atomic.java.trace;
 
 import atomic.java.attribution.Attribution;
 import atomic.java.attribution.SourceText;
-import atomic.java.library.Library;
 import atomic.java.options.Options;
 import atomic.java.options.Refusal;
+import atomic.java.program.Program;
 import atomic.java.skeleton.Method;
 import atomic.java.skeleton.Part;
 import atomic.java.skeleton.Place;
@@ -28,14 +28,14 @@ import javax.lang.model.element.Element;
  */
 public final class Copies {
     private final Attribution attribution;
-    private final Library library;
+    private final Program program;
     private final Predicate<MethodTree> atomic;
     private final Set<Element> classes = new HashSet<>();
 
-    /** Of attributed sources; {@code atomic} says which methods promise to be. */
-    public Copies(Attribution attribution, Library library, Predicate<MethodTree> atomic) {
-        this.attribution = attribution;
-        this.library = library;
+    /** Of a program's sources; {@code atomic} says which methods promise to be. */
+    public Copies(Program program, Predicate<MethodTree> atomic) {
+        this.program = program;
+        attribution = program.attribution();
         this.atomic = atomic;
         attribution.units().forEach(unit -> new TreeScanner<Void, Void>() {
             @Override
@@ -53,7 +53,7 @@ public final class Copies {
             for (CompilationUnitTree unit : attribution.units()) {
                 write(unit, Path.of(folder), singles);
             }
-            Files.write(Path.of(folder, "skeleton.txt"), new SkeletonText(skeleton, repeats, helpers).lines());
+            Files.write(Path.of(folder, "skeleton.txt"), new SkeletonText(skeleton, repeats, helpers, program.lent()).lines());
         } catch (IOException | java.nio.file.InvalidPathException fault) {
             throw new Refusal(Options.CANNOT_WRITE, "cannot write into " + folder);
         }
@@ -77,7 +77,7 @@ public final class Copies {
 
     private void write(CompilationUnitTree unit, Path folder, Set<Place> singles) throws IOException {
         SourceText source = attribution.source(unit);
-        LoggedCopy copy = new LoggedCopy(attribution, library, classes, source.text(), atomic, singles);
+        LoggedCopy copy = new LoggedCopy(attribution, program.library(), classes, source.text(), atomic, singles);
         String named = unit.getPackageName() == null ? "" : unit.getPackageName().toString().replace('.', '/');
         Path path = folder.resolve(named).resolve(Path.of(source.file()).getFileName());
         Files.createDirectories(path.getParent());

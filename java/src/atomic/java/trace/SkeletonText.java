@@ -13,17 +13,20 @@ import java.util.Set;
  * parentheses: {@code (seq ..)}, {@code (or A B)}, {@code (rep A)}, {@code (sync LINE:COLUMN A)}, {@code (read LINE:COLUMN)},
  * {@code (write LINE:COLUMN)}, {@code (wait)} and {@code (call LINE:COLUMN TARGET)}, where TARGET is the number of a line, from 0 on.
  * Behind the methods stands {@code repeat LINE:COLUMN LINE:COLUMN} for each look that is no step where the second place is next,
- * and {@code helper LINE:COLUMN -} for each method whose body is written where it is called.
+ * {@code helper LINE:COLUMN -} for each method whose body is written where it is called, and {@code lent LINE:COLUMN -} where a
+ * method uses what it is given, whose steps stand where that is given to it.
  */
 final class SkeletonText {
     private final List<Method> methods;
     private final Map<Place, Place> repeats;
     private final Set<Place> helpers;
+    private final Set<Place> lent;
 
-    SkeletonText(List<Method> methods, Map<Place, Place> repeats, Set<Place> helpers) {
+    SkeletonText(List<Method> methods, Map<Place, Place> repeats, Set<Place> helpers, Set<Place> lent) {
         this.methods = methods;
         this.repeats = repeats;
         this.helpers = helpers;
+        this.lent = lent;
     }
 
     List<String> lines() {
@@ -33,6 +36,7 @@ final class SkeletonText {
         }
         repeats.forEach((look, again) -> lines.add("repeat " + place(look) + " " + place(again)));
         helpers.forEach(each -> lines.add("helper " + place(each) + " -"));
+        lent.forEach(each -> lines.add("lent " + place(each) + " -"));
         return lines;
     }
 

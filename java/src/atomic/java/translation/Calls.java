@@ -117,6 +117,9 @@ final class Calls {
                 boolean looks = k < parameters.size() && !method.symbol().isVarArgs()
                     && services.ownership().onlyLooks(parameters.get(k));
                 lend(all.get(k), !looks, trees.get(k));
+                if (all.get(k) instanceof Value.Owned && k < parameters.size()) {
+                    lent(parameters.get(k));
+                }
                 expose(all.get(k), trees.get(k), k < parameters.size() ? parameters.get(k) : null);
             }
         }
@@ -140,6 +143,16 @@ final class Calls {
             Part access = new Part.Access(owned.receiver(), owned.contents(), write, services.attribution().name(at));
             body.emit(Part.sequence(List.of(access, access)));
             services.functions().compare(services.fields().comparing(owned.contents()), body, at);
+        }
+    }
+
+    /** Notes where a method uses what it is lent, for who compares logs with the skeleton. */
+    private void lent(VariableElement parameter) {
+        for (Tree use : services.uses().of(parameter)) {
+            Tree around = services.attribution().parent(use);
+            Tree call = around instanceof MemberSelectTree ? services.attribution().parent(around) : around;
+            services.program().lent().add(services.attribution().name(use));
+            services.program().lent().add(services.attribution().name(call));
         }
     }
 
