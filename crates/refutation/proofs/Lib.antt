@@ -18,6 +18,7 @@ pub mod Ranges
 pub mod MakerLemmas
 mod BodyLemmas
 mod RiseLemmas
+mod KnownOver
 pub mod Known
 pub mod CheckLemmas
 mod Rooms

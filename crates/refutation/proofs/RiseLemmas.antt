@@ -34,7 +34,7 @@ use Rattle.refutation.proofs.BodyLemmas.{inside_cells}
 
 module _ (P : Program) (rel : ℕ → List PathData) (m : ℕ) (old new : List LineData) (adds : Adds m old new) where
   -- what is said of others is the same
-  others_stay : (n : ℕ) → (n == m) ≡ false → (H : Held) → floor rel old n H ≡ floor rel new n H
+  pub others_stay : (n : ℕ) → (n == m) ≡ false → (H : Held) → floor rel old n H ≡ floor rel new n H
   others_stay n other H = by adds.more old adds.its ∙ ap (λ ls. floor rel ls n H) (sym adds.are)
     where
       by : (more ls : List LineData) → AllByRecursion (λ l. l.method ≡ m) more → floor rel ls n H ≡ floor rel (ls ++ more) n H

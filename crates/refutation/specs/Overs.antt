@@ -1,5 +1,5 @@
 -- What is said of all methods that override one, kept in one table.
-use Rattle.std.specs.Prelude.{◌≡◌, ℕ, ◌&&◌, Bool, true, false, List, [], ◌∷◌, length}
+use Rattle.std.specs.Prelude.{◌≡◌, ℕ, ◌&&◌, Bool, true, false, List, [], ◌∷◌, length, Some, slice_get}
 use Rattle.paths.specs.Paths.{PathData}
 use Rattle.algebra.specs.declared.basic.Basic.{Basic}
 use Rattle.algebra.specs.declared.basic.Basic.TheVariants.{Const}
@@ -8,6 +8,7 @@ use Rattle.algebra.specs.HeldPaths.{Held, has_path}
 use Rattle.core_program.specs.Core.{Program}
 use Rattle.rules.specs.Effect.{Assignment}
 use Rattle.rules.specs.Rules.{IsSubset, AtMost, held_in}
+use Rattle.rules.specs.Search.{row_at}
 use Rattle.refutation.specs.Lines.{overriding, joined_over}
 use Rattle.refutation.specs.Tables.{table_entry}
 use Rattle.refutation.specs.Steps.{entry_along}
@@ -48,3 +49,11 @@ TellsOver P rel A m table whole = whole ≡ true → (H : Held) → IsSubset H (
 pub record IsSaidOver (P : Program) (rel : ℕ → List PathData) (A : Assignment) (m : ℕ) (table : List Basic) (whole : Bool) (most : Basic) : Type 0 where
   pub each : TellsOver P rel A m table whole
   pub low : (H : Held) → AtMost (joined_over rel A (overriding P m) H) most
+
+-- a table tells of each part of a method's relevant paths what an assignment says of these methods
+abbrev pub TellsRow : (rel : ℕ → List PathData) → Assignment → ℕ → (methods : List ℕ) → (table : List Basic) → Type 0
+TellsRow rel A m methods table = (H : Held) → IsSubset H (has_path (rel m)) → table_entry (rel m) table H ≡ joined_over rel A methods H
+
+-- of each method that isn't unknown its table tells what an assignment says of those in its row
+abbrev pub AreTold : (rows : List (List ℕ)) → (rel : ℕ → List PathData) → Assignment → (tables : List (List Basic)) → (unknown : List Bool) → Type 0
+AreTold rows rel A tables unknown = (m : ℕ) → slice_get unknown m ≡ Some false → TellsRow rel A m (row_at rows m) (row_at tables m)

@@ -19,7 +19,7 @@ use crate::check::keeps_bound;
 use crate::floors::Floors;
 use crate::judged::Judged;
 use crate::line::Line;
-use crate::overs::{OverSaid, said_of_overriding, tells_as_much};
+use crate::overs::{OverSaid, tells_as_much};
 use crate::parts::{HeldSet, parts_with};
 use crate::said::Said;
 use crate::short_path::packed;
@@ -113,25 +113,26 @@ pub(crate) fn ask_method(
     alloc: Global,
     judged: &Judged<'_>,
     said: &mut Said<'_>,
-    id: MethodId,
+    over: &OverSaid,
     method: &CoreMethod,
     is_said: bool,
 ) -> Result<bool, NoMemory>
-    requires there { id < length (program_of judged.now.program.now).methods }
+    requires there { over.now.method < length (program_of judged.now.program.now).methods }
     requires over { AreOverriders (program_of judged.now.program.now) judged.now.over.now }
+    requires said { let rel = rel_of judged.now.sets.now in IsSaidOver (program_of judged.now.program.now) rel (floor rel said.old.lines.items) over.now.method over.now.table over.now.whole over.now.most }
     requires relevant { AreRelevant (program_of judged.now.program.now) judged.now.sets.now }
     requires agrees { KeptAgrees (program_of judged.now.program.now) judged.now.sets.now said.old.floors.sets.now said.old.floors.tables.items said.old.lines.items }
     requires body { let rel = rel_of judged.now.sets.now in
-        is_said ≡ true → AreBodiesSaid (program_of judged.now.program.now) rel (cells_in id (method_of method.now).requires_ (subsets_of (rel id))) said.old.lines.items }
+        is_said ≡ true → AreBodiesSaid (program_of judged.now.program.now) rel (cells_in over.now.method (method_of method.now).requires_ (subsets_of (rel over.now.method))) said.old.lines.items }
     ensures agrees { OnOk result (KeptAgrees (program_of judged.now.program.now) judged.now.sets.now said.new.floors.sets.now said.new.floors.tables.items said.new.lines.items) }
-    ensures adds { OnOk result (Adds id said.old.lines.items said.new.lines.items) }
+    ensures adds { OnOk result (Adds over.now.method said.old.lines.items said.new.lines.items) }
     ensures asked { IfOk result (λ broken. let rel = rel_of judged.now.sets.now in
-        IsPass (program_of judged.now.program.now) rel (cells_in id (method_of method.now).requires_ (subsets_of (rel id))) said.old.lines.items said.new.lines.items broken) }
+        IsPass (program_of judged.now.program.now) rel (cells_in over.now.method (method_of method.now).requires_ (subsets_of (rel over.now.method))) said.old.lines.items said.new.lines.items broken) }
 {
-    let over = said_of_overriding(alloc, judged, &said.floors, id)?;
-    if is_said && tells_as_much(&said.floors, &over, id) {
+    let id = over.method;
+    if is_said && tells_as_much(&said.floors, over, id) {
         return Ok(false);
     }
     let parts = parts_with(alloc, judged.sets.rel(id), method.requires_.as_slice())?;
-    ask_sets(alloc, judged, said, &over, id, parts.as_slice())
+    ask_sets(alloc, judged, said, over, id, parts.as_slice())
 }

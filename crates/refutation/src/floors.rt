@@ -127,7 +127,7 @@ fn const_tables(alloc: Global, sets: &RelevantSets, count: usize) -> Result<Vec<
 }
 
 /// The place of a method.
-fn place_of(method: MethodId) -> usize
+pub(crate) fn place_of(method: MethodId) -> usize
     ensures { result ≡ method }
 {
     // Only the proof needs a function for this: its clause tells what the number of an id is.

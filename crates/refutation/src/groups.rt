@@ -1,18 +1,20 @@
 //! What is said of several methods, in one table for all whose relevant paths stand alike to those of a method that they override.
-ghost use Rattle.std.specs.Prelude.{◌≡◌, ◌<◌, true, List, length, map, slice_get, IfOk, IfSome};
+ghost use Rattle.std.specs.Prelude.{◌≡◌, ◌<◌, ◌≤◌, ◌∷◌, true, List, length, map, slice_get, IfOk, IfSome};
 ghost use Rattle.paths.specs.Paths.{PathData};
 ghost use Rattle.algebra.specs.Basics.{join_of};
 ghost use Rattle.algebra.specs.HeldPaths.{Held, has_path};
 ghost use Rattle.algebra.specs.Tables.{count_of_parts};
 ghost use Rattle.rules.specs.Near.{rel_of};
 ghost use Rattle.rules.specs.Rules.{IsSubset};
+ghost use Rattle.rules.specs.Search.{row_at};
 ghost use Rattle.refutation.specs.Lines.{joined_over};
 ghost use Rattle.refutation.specs.Tables.{said_by, table_entry};
-ghost use Rattle.refutation.specs.Overs.{IsAlike, joined_each, said_in_groups};
+ghost use Rattle.refutation.specs.Overs.{AreTold, IsAlike, joined_each, said_in_groups};
 ghost use Rattle.refutation.specs.Steps.{entry_along};
 
-use crate::floors::{Floors, Table, table_at};
+use crate::floors::{Table, table_at};
 use crate::steps::{Alignment, Step, align, same_steps};
+use crate::told::{Sight, behind_known};
 use algebra::{Basic, front, half};
 use arrayvec::ArrayVec;
 use paths::{MethodId, Path};
@@ -80,28 +82,26 @@ fn join_at(groups: &mut [Group], at: usize, its: &[Basic])
     join_table(&mut group.table, its);
 }
 
-/// Joins what is said of one method more into the groups, and says whether it could.
-fn join_method(
+/// Joins what a table of some paths says into the groups, and says whether it could.
+fn join_said(
     alloc: Global,
-    floors: &Floors<'_>,
     rel: &[Path],
+    its: &[Path],
+    table: &[Basic],
     groups: &mut Vec<Group>,
-    method: MethodId,
 ) -> Result<bool, NoMemory>
-    ensures { let all = rel_of floors.now.sets.now in
-        IfOk result (λ could. could ≡ true → (H : Held) → IsSubset H (has_path rel.now) → said_in_groups rel.now groups.new.items H ≡ join_of (said_in_groups rel.now groups.old.items H) (said_by all floors.now.tables.items method H)) }
+    ensures { IfOk result (λ could. could ≡ true → (H : Held) → IsSubset H (has_path rel.now) → said_in_groups rel.now groups.new.items H ≡ join_of (said_in_groups rel.now groups.old.items H) (table_entry its.now table.now H)) }
 {
     let mut steps = ArrayVec::new();
-    if !align(rel, rel, floors.sets.rel(method), &mut steps) {
+    if !align(rel, rel, its, &mut steps) {
         return Ok(false);
     }
-    let its = table_at(floors.tables.as_slice(), method);
-    if let Some(at) = alike(groups.as_slice(), steps.as_slice(), its.len()) {
-        join_at(groups.as_mut_slice(), at, its);
+    if let Some(at) = alike(groups.as_slice(), steps.as_slice(), table.len()) {
+        join_at(groups.as_mut_slice(), at, table);
         return Ok(true);
     }
     let mut basics = Vec::new(alloc);
-    basics.extend_from_slice(its)?;
+    basics.extend_from_slice(table)?;
     groups.push(Group {
         steps,
         table: Table { basics },
@@ -109,21 +109,85 @@ fn join_method(
     Ok(true)
 }
 
+/// Joins what is said of one method more into the groups, and says whether it could.
+fn join_method(
+    alloc: Global,
+    sight: &Sight<'_>,
+    rel: &[Path],
+    groups: &mut Vec<Group>,
+    method: MethodId,
+) -> Result<bool, NoMemory>
+    ensures { let all = rel_of sight.now.floors.now.sets.now in
+        IfOk result (λ could. could ≡ true → (H : Held) → IsSubset H (has_path rel.now) → said_in_groups rel.now groups.new.items H ≡ join_of (said_in_groups rel.now groups.old.items H) (said_by all sight.now.floors.now.tables.items method H)) }
+{
+    let table = table_at(sight.floors.tables.as_slice(), method);
+    join_said(alloc, rel, sight.floors.sets.rel(method), table, groups)
+}
+
+/// Joins what is known of the methods that override one into the groups, and says whether it could.
+fn join_known(
+    alloc: Global,
+    sight: &Sight<'_>,
+    rel: &[Path],
+    groups: &mut Vec<Group>,
+    method: MethodId,
+) -> Result<bool, NoMemory>
+    ensures { let its = rel_of sight.now.floors.now.sets.now method in
+        IfOk result (λ could. could ≡ true → (H : Held) → IsSubset H (has_path rel.now) → said_in_groups rel.now groups.new.items H ≡ join_of (said_in_groups rel.now groups.old.items H) (table_entry its (row_at sight.now.known.now.tables.items method) H)) }
+{
+    let table = table_at(sight.known.tables.as_slice(), method);
+    join_said(alloc, rel, sight.floors.sets.rel(method), table, groups)
+}
+
+/// Joins what is said of a method into the groups, and of those behind it that override it, where a table tells it of them all. Gives the
+/// others; none where it couldn't.
+fn join_front<'a>(
+    alloc: Global,
+    sight: &Sight<'_>,
+    rel: &[Path],
+    groups: &mut Vec<Group>,
+    method: MethodId,
+    behind: &'a [MethodId],
+) -> Result<Option<&'a [MethodId]>, NoMemory>
+    requires { let all = rel_of sight.now.floors.now.sets.now in
+        AreTold sight.now.over.now all (said_by all sight.now.floors.now.tables.items) sight.now.known.now.tables.items sight.now.known.now.unknown }
+    ensures fewer { IfOk result (λ told. IfSome told (λ left. length left.now ≤ length behind.now)) }
+    ensures joined { let all = rel_of sight.now.floors.now.sets.now in let said = said_by all sight.now.floors.now.tables.items in
+        IfOk result (λ told. IfSome told (λ left. (H : Held) → IsSubset H (has_path rel.now) →
+        join_of (said_in_groups rel.now groups.new.items H) (joined_over all said left.now H) ≡ join_of (said_in_groups rel.now groups.old.items H) (joined_over all said (method ∷ behind.now) H))) }
+{
+    if !join_method(alloc, sight, rel, groups, method)? {
+        return Ok(None);
+    }
+    let Some(left) = behind_known(sight, rel, method, behind) else {
+        return Ok(Some(behind));
+    };
+    if join_known(alloc, sight, rel, groups, method)? {
+        Ok(Some(left))
+    } else {
+        Ok(None)
+    }
+}
+
 /// The groups of these methods, for one with these relevant paths; none where they have paths in another order.
 pub(crate) fn groups_of(
     alloc: Global,
-    floors: &Floors<'_>,
+    sight: &Sight<'_>,
     rel: &[Path],
     methods: &[MethodId],
 ) -> Result<Option<Vec<Group>>, NoMemory>
-    ensures { let all = rel_of floors.now.sets.now in
-        IfOk result (λ told. IfSome told (λ groups. (H : Held) → IsSubset H (has_path rel.now) → said_in_groups rel.now groups.items H ≡ joined_over all (said_by all floors.now.tables.items) methods.now H)) }
+    requires { let all = rel_of sight.now.floors.now.sets.now in
+        AreTold sight.now.over.now all (said_by all sight.now.floors.now.tables.items) sight.now.known.now.tables.items sight.now.known.now.unknown }
+    ensures { let all = rel_of sight.now.floors.now.sets.now in
+        IfOk result (λ told. IfSome told (λ groups. (H : Held) → IsSubset H (has_path rel.now) → said_in_groups rel.now groups.items H ≡ joined_over all (said_by all sight.now.floors.now.tables.items) methods.now H)) }
 {
     let mut groups = Vec::new(alloc);
-    for method in methods {
-        if !join_method(alloc, floors, rel, &mut groups, *method)? {
+    let mut rest = methods;
+    'methods: while let Some((method, behind)) = rest.split_first() {
+        let Some(left) = join_front(alloc, sight, rel, &mut groups, *method, behind)? else {
             return Ok(None);
-        }
+        };
+        rest = left;
     }
     Ok(Some(groups))
 }

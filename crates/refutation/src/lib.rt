@@ -22,6 +22,7 @@ mod steps;
 mod text_front;
 mod text_reader;
 mod text_writer;
+mod told;
 mod up;
 mod waiting;
 mod waits;

@@ -10,6 +10,7 @@ ghost use Rattle.refutation.specs.Tables.{said_by};
 use crate::floors::Floors;
 use crate::judged::Judged;
 use crate::overs::{OverTable, over_table};
+use crate::told::OverTables;
 use crate::work::{overriding_cost, spend};
 use paths::MethodId;
 use std::alloc::{AllocError as NoMemory, Global};
@@ -44,7 +45,8 @@ pub(crate) fn renew(
     if !spend(&mut looks.left, overriding_cost(judged.over.of(method))) {
         return Ok(false);
     }
-    looks.known = over_table(alloc, judged, floors, method)?;
+    let none = OverTables::none(alloc, 0)?;
+    looks.known = over_table(alloc, judged, floors, &none, method)?;
     Ok(true)
 }
 

@@ -1,20 +1,22 @@
 //! What is said of all methods that override one, in one table.
-ghost use Rattle.std.specs.Prelude.{◌≡◌, ◌&&◌, true, List, IfOk};
+ghost use Rattle.std.specs.Prelude.{◌≡◌, ◌&&◌, true, List, length, IfOk, OnOk};
 ghost use Rattle.core_program.specs.Views.{program_of};
 ghost use Rattle.rules.specs.Near.{rel_of};
 ghost use Rattle.rules.specs.Overriding.{AreOverriders};
 ghost use Rattle.rules.specs.Search.{row_at};
 ghost use Rattle.refutation.specs.Lines.{LineData, floor};
 ghost use Rattle.refutation.specs.Tables.{TablesSay, said_by};
-ghost use Rattle.refutation.specs.Overs.{IsSaidOver, TellsOver, SaysNoMore, below_each};
+ghost use Rattle.refutation.specs.Overs.{AreTold, IsSaidOver, TellsOver, SaysNoMore, below_each};
 
 use crate::ask::said_at_most;
 use crate::floors::{Floors, Table, consts, table_at};
 use crate::groups::{groups_of, join_groups};
 use crate::judged::Judged;
 use crate::steps::{align, is_within};
+use crate::told::{OverTables, Sight, after};
 use algebra::Basic;
 use arrayvec::ArrayVec;
+use effects::has_all;
 use paths::MethodId;
 use std::alloc::{AllocError as NoMemory, Global};
 
@@ -22,6 +24,7 @@ use std::alloc::{AllocError as NoMemory, Global};
 /// paths. Nothing that is said of them passes `most`.
 #[derive(Drop)]
 pub(crate) struct OverSaid {
+    pub(crate) method: MethodId,
     pub(crate) table: Table,
     pub(crate) whole: bool,
     pub(crate) most: Basic,
@@ -40,16 +43,24 @@ pub(crate) fn over_table(
     alloc: Global,
     judged: &Judged<'_>,
     floors: &Floors<'_>,
+    known: &OverTables,
     method: MethodId,
 ) -> Result<OverTable, NoMemory>
-    requires { AreOverriders (program_of judged.now.program.now) judged.now.over.now }
+    requires over { AreOverriders (program_of judged.now.program.now) judged.now.over.now }
+    requires known { let rel = rel_of floors.now.sets.now in
+        AreTold judged.now.over.now rel (said_by rel floors.now.tables.items) known.now.tables.items known.now.unknown }
     ensures its { IfOk result (λ o. o.method ≡ method) }
     ensures tells { let rel = rel_of floors.now.sets.now in
         IfOk result (λ o. TellsOver (program_of judged.now.program.now) rel (said_by rel floors.now.tables.items) method o.table o.whole) }
 {
     let rel = floors.sets.rel(method);
     let mut basics = consts(alloc, rel)?;
-    let Some(groups) = groups_of(alloc, floors, rel, judged.over.of(method))? else {
+    let sight = Sight {
+        floors,
+        over: judged.over,
+        known,
+    };
+    let Some(groups) = groups_of(alloc, &sight, rel, judged.over.of(method))? else {
         return Ok(OverTable {
             method,
             table: Table { basics },
@@ -64,29 +75,138 @@ pub(crate) fn over_table(
     })
 }
 
-/// What is said of the methods that override one.
+/// Makes the table of a method, and keeps it where it is whole.
+fn learn(
+    alloc: Global,
+    judged: &Judged<'_>,
+    floors: &Floors<'_>,
+    known: &mut OverTables,
+    method: MethodId,
+) -> Result<(), NoMemory>
+    requires over { AreOverriders (program_of judged.now.program.now) judged.now.over.now }
+    requires known { let rel = rel_of floors.now.sets.now in
+        AreTold judged.now.over.now rel (said_by rel floors.now.tables.items) known.old.tables.items known.old.unknown }
+    ensures size { length known.new.unknown ≡ length known.old.unknown }
+    ensures known { let rel = rel_of floors.now.sets.now in
+        OnOk result (AreTold judged.now.over.now rel (said_by rel floors.now.tables.items) known.new.tables.items known.new.unknown) }
+{
+    let made = over_table(alloc, judged, floors, known, method)?;
+    if made.whole {
+        known.keep(method, made.table);
+    }
+    Ok(())
+}
+
+/// The method at a place of those that override one, where its table is to be made: it is unknown, tells of all relevant paths of that one,
+/// and the methods that override it stand right behind it.
+fn wanted(
+    judged: &Judged<'_>,
+    floors: &Floors<'_>,
+    known: &OverTables,
+    method: MethodId,
+    place: usize,
+) -> Option<MethodId> {
+    let methods = judged.over.of(method);
+    if place >= methods.len() {
+        return None;
+    }
+    let (_, rest) = methods.split_at(place);
+    let Some((under, behind)) = rest.split_first() else {
+        return None;
+    };
+    let over = judged.over.of(*under);
+    if over.is_empty() || known.is_known(*under) || after(behind, over).is_none() {
+        return None;
+    }
+    if has_all(floors.sets.rel(*under), floors.sets.rel(method)) {
+        Some(*under)
+    } else {
+        None
+    }
+}
+
+/// Makes the table of the method at a place of those that override one, where it is to be made.
+fn learn_at(
+    alloc: Global,
+    judged: &Judged<'_>,
+    floors: &Floors<'_>,
+    known: &mut OverTables,
+    method: MethodId,
+    place: usize,
+) -> Result<(), NoMemory>
+    requires over { AreOverriders (program_of judged.now.program.now) judged.now.over.now }
+    requires known { let rel = rel_of floors.now.sets.now in
+        AreTold judged.now.over.now rel (said_by rel floors.now.tables.items) known.old.tables.items known.old.unknown }
+    ensures size { length known.new.unknown ≡ length known.old.unknown }
+    ensures known { let rel = rel_of floors.now.sets.now in
+        OnOk result (AreTold judged.now.over.now rel (said_by rel floors.now.tables.items) known.new.tables.items known.new.unknown) }
+{
+    match wanted(judged, floors, known, method, place) {
+        Some(under) => learn(alloc, judged, floors, known, under),
+        None => Ok(()),
+    }
+}
+
+/// Makes the tables of the methods that override one, as far as they are wanted. The last one is the first: those that override a method
+/// stand behind it.
+fn learn_below(
+    alloc: Global,
+    judged: &Judged<'_>,
+    floors: &Floors<'_>,
+    known: &mut OverTables,
+    method: MethodId,
+) -> Result<(), NoMemory>
+    requires over { AreOverriders (program_of judged.now.program.now) judged.now.over.now }
+    requires known { let rel = rel_of floors.now.sets.now in
+        AreTold judged.now.over.now rel (said_by rel floors.now.tables.items) known.old.tables.items known.old.unknown }
+    ensures size { length known.new.unknown ≡ length known.old.unknown }
+    ensures known { let rel = rel_of floors.now.sets.now in
+        OnOk result (AreTold judged.now.over.now rel (said_by rel floors.now.tables.items) known.new.tables.items known.new.unknown) }
+{
+    if known.is_known(method) {
+        return Ok(());
+    }
+    let mut place = judged.over.of(method).len();
+    'places: while place > 0 {
+        place -= 1;
+        learn_at(alloc, judged, floors, known, method, place)?;
+    }
+    Ok(())
+}
+
+/// What is said of the methods that override one. The tables of these are made and kept on the way.
 pub(crate) fn said_of_overriding(
     alloc: Global,
     judged: &Judged<'_>,
     floors: &Floors<'_>,
+    known: &mut OverTables,
     method: MethodId,
 ) -> Result<OverSaid, NoMemory>
-    requires { AreOverriders (program_of judged.now.program.now) judged.now.over.now }
-    ensures { let rel = rel_of floors.now.sets.now in
+    requires over { AreOverriders (program_of judged.now.program.now) judged.now.over.now }
+    requires known { let rel = rel_of floors.now.sets.now in
+        AreTold judged.now.over.now rel (said_by rel floors.now.tables.items) known.old.tables.items known.old.unknown }
+    ensures size { length known.new.unknown ≡ length known.old.unknown }
+    ensures known { let rel = rel_of floors.now.sets.now in
+        OnOk result (AreTold judged.now.over.now rel (said_by rel floors.now.tables.items) known.new.tables.items known.new.unknown) }
+    ensures its { IfOk result (λ o. o.method ≡ method) }
+    ensures said { let rel = rel_of floors.now.sets.now in
         (lines : List LineData) → TablesSay rel floors.now.tables.items lines →
         IfOk result (λ o. IsSaidOver (program_of judged.now.program.now) rel (floor rel lines) method o.table o.whole o.most) }
 {
-    let known = over_table(alloc, judged, floors, method)?;
-    if known.whole {
+    learn_below(alloc, judged, floors, known, method)?;
+    let its = over_table(alloc, judged, floors, known, method)?;
+    if its.whole {
         return Ok(OverSaid {
-            table: known.table,
+            method,
+            table: its.table,
             whole: true,
             most: Basic::Error,
         });
     }
     let most = said_at_most(judged, floors, method);
     Ok(OverSaid {
-        table: known.table,
+        method,
+        table: its.table,
         whole: false,
         most,
     })

@@ -8,12 +8,13 @@ ghost use Rattle.rules.specs.Called.{AreCallers};
 ghost use Rattle.refutation.specs.Certificates.{IsCertificate};
 ghost use Rattle.refutation.specs.Passes.{Passes, pass, cells_of};
 ghost use Rattle.refutation.specs.Ends.{KeptAgrees, IsBlameEnd};
-ghost use Rattle.refutation.specs.Waiting.{AreSettled, AreBodiesSettled};
+ghost use Rattle.refutation.specs.Waiting.{AreSettled, AreBodiesSettled, AreKnown};
 
 use crate::floors::Floors;
 use crate::judged::{Asking, Judged, NoneOverriding};
 use crate::line::Blame;
 use crate::said::Said;
+use crate::told::OverTables;
 use crate::waiting::ask_noting;
 use crate::waits::{Waiting, Waits};
 use core_program::CoreProgram;
@@ -61,11 +62,13 @@ fn pass(
     requires agrees { KeptAgrees (program_of asking.now.judged.now.program.now) asking.now.judged.now.sets.now said.old.floors.sets.now said.old.floors.tables.items said.old.lines.items }
     requires settled { AreSettled (program_of asking.now.judged.now.program.now) (rel_of asking.now.judged.now.sets.now) said.old.lines.items waits.old.methods }
     requires bodies { AreBodiesSettled (program_of asking.now.judged.now.program.now) (rel_of asking.now.judged.now.sets.now) said.old.lines.items waits.old.bodies }
+    requires known { AreKnown (program_of asking.now.judged.now.program.now) asking.now.judged.now.over.now (rel_of asking.now.judged.now.sets.now) said.old.lines.items waits.old.known.tables.items waits.old.known.unknown }
     ensures agrees { OnOk result (KeptAgrees (program_of asking.now.judged.now.program.now) asking.now.judged.now.sets.now said.new.floors.sets.now said.new.floors.tables.items said.new.lines.items) }
     ensures size { length waits.new.methods ≡ length waits.old.methods }
     ensures body_size { length waits.new.bodies ≡ length waits.old.bodies }
     ensures settled { IfOk result (λ broken. broken ≡ false → AreSettled (program_of asking.now.judged.now.program.now) (rel_of asking.now.judged.now.sets.now) said.new.lines.items waits.new.methods) }
     ensures bodies { IfOk result (λ broken. broken ≡ false → AreBodiesSettled (program_of asking.now.judged.now.program.now) (rel_of asking.now.judged.now.sets.now) said.new.lines.items waits.new.bodies) }
+    ensures known { IfOk result (λ broken. broken ≡ false → AreKnown (program_of asking.now.judged.now.program.now) asking.now.judged.now.over.now (rel_of asking.now.judged.now.sets.now) said.new.lines.items waits.new.known.tables.items waits.new.known.unknown) }
     ensures passed { IfOk result (λ broken. let P = program_of asking.now.judged.now.program.now in let rel = rel_of asking.now.judged.now.sets.now in
         pass P rel (cells_of P rel) said.old.lines.items ≡ record { all = said.new.lines.items; broken = broken }) }
 {
@@ -103,6 +106,7 @@ fn passes(
     requires none { said.old.lines.items ≡ [] }
     requires settled { AreSettled (program_of asking.now.judged.now.program.now) (rel_of asking.now.judged.now.sets.now) said.old.lines.items waits.old.methods }
     requires bodies { AreBodiesSettled (program_of asking.now.judged.now.program.now) (rel_of asking.now.judged.now.sets.now) said.old.lines.items waits.old.bodies }
+    requires known { AreKnown (program_of asking.now.judged.now.program.now) asking.now.judged.now.over.now (rel_of asking.now.judged.now.sets.now) said.old.lines.items waits.old.known.tables.items waits.old.known.unknown }
     ensures agrees { OnOk result (KeptAgrees (program_of asking.now.judged.now.program.now) asking.now.judged.now.sets.now said.new.floors.sets.now said.new.floors.tables.items said.new.lines.items) }
     ensures passes { IfOk result (λ broken. Passes (program_of asking.now.judged.now.program.now) (rel_of asking.now.judged.now.sets.now) [] (record { all = said.new.lines.items; broken = broken })) }
 {
@@ -141,7 +145,12 @@ pub fn blame(alloc: Global, program: &CoreProgram, sets: &RelevantSets) -> Resul
     let floors = Floors::new(alloc, sets, count)?;
     let methods = Waits::all(alloc, count)?;
     let bodies = Waits::all(alloc, count)?;
-    let mut waits = Waiting { methods, bodies };
+    let known = OverTables::none(alloc, count)?;
+    let mut waits = Waiting {
+        methods,
+        bodies,
+        known,
+    };
     let lines = Vec::new(alloc);
     let judged = Judged {
         program,

@@ -1,7 +1,8 @@
 //! Which methods wait to be asked.
-ghost use Rattle.std.specs.Prelude.{◌≡◌, ◌<◌, ◌≤◌, ◌∷◌, [], ℕ, length, Some, IfOk, true, false, slice_get};
+ghost use Rattle.std.specs.Prelude.{◌≡◌, ◌<◌, ◌≤◌, ◌∷◌, [], ℕ, length, Some, IfOk, true, false, nat_lt, slice_get};
 ghost use Rattle.refutation.specs.Waiting.{AreWoken, IsAsleep};
 
+use crate::told::OverTables;
 use std::alloc::{AllocError as NoMemory, Global};
 use std::marker::Model;
 
@@ -25,11 +26,12 @@ impl Model for Waits {
 }
 
 /// Which methods wait to be asked, and whose bodies do. A method that waits while its body doesn't does so only since one that overrides it
-/// rose.
+/// rose. And what is known of the methods that override others.
 #[derive(Drop)]
 pub(crate) struct Waiting {
     pub(crate) methods: Waits,
     pub(crate) bodies: Waits,
+    pub(crate) known: OverTables,
 }
 
 /// The end of the places before this one, without those at the end that don't wait.
@@ -87,9 +89,17 @@ impl Waits {
         self.flags[method]
     }
 
+    /// Whether a method is there.
+    pub(crate) fn has_place(&self, method: usize) -> bool
+        ensures { result ≡ nat_lt method (length self.now) }
+    {
+        method < self.flags.len()
+    }
+
     /// Whether a method is there and doesn't wait.
     pub(crate) fn is_asleep(&self, method: usize) -> bool
-        ensures { slice_get self.now method ≡ Some false → result ≡ true }
+        ensures asleep { slice_get self.now method ≡ Some false → result ≡ true }
+        ensures told { result ≡ true → slice_get self.now method ≡ Some false }
     {
         match self.flags.get(method) {
             Some(waits) => !*waits,

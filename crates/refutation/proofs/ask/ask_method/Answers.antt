@@ -1,13 +1,11 @@
--- Where as much is said already, nothing new is to be said. Else the parts of the relevant paths ascend, and what is said of the methods that override is that of the lines so far.
+-- Where as much is said already, nothing new is to be said. Else the parts of the relevant paths ascend.
 use Rattle.std.proofs.Common.{◌≡◌, true, rules, sym, ◌∙◌, subst}
 use Rattle.std.specs.List.{AllByRecursion}
 use Rattle.algebra.specs.HeldPaths.{has_path}
 use Rattle.core_program.specs.Views.{program_of, method_of}
 use Rattle.rules.specs.Near.{rel_of}
 use Rattle.rules.specs.Rules.{IsSubset}
-use Rattle.refutation.specs.Lines.{floor}
 use Rattle.refutation.specs.Passes.{cells_in, subsets_of}
-use Rattle.refutation.specs.Overs.{IsSaidOver}
 use Rattle.refutation.proofs.BodyLemmas.{over_said, said_of_bodies}
 use Rattle.refutation.proofs.MakerLemmas.{asked_ascend, asked_inside}
 use Rattle.refutation.proofs.WaitLemmas.{said_asked}
@@ -15,14 +13,8 @@ use Rattle.refutation.proofs.ask.ask_method.Goals as goal
 
 pub ask_sets-requires-clause-ascend : goal.ask_sets-requires-clause-ascend
 ask_sets-requires-clause-ascend c =
-    asked_ascend (program_of c.args.judged.now.program.now) c.args.judged.now.sets.now c.args.id c.rel.result.now c.as_slice.result.now c.as_slice-2.result.now c.requires.relevant c.rel.ensures
+    asked_ascend (program_of c.args.judged.now.program.now) c.args.judged.now.sets.now c.args.over.now.method c.rel.result.now c.as_slice.result.now c.as_slice-2.result.now c.requires.relevant c.rel.ensures
     (c.as_slice-2.ensures.value ∙ c.in_ok-parts.ensures)
-
-pub ask_sets-requires-clause-said : goal.ask_sets-requires-clause-said
-ask_sets-requires-clause-said c =
-    let agrees = c.requires.agrees in
-    subst (λ s. IsSaidOver (program_of c.args.judged.now.program.now) (rel_of s) (floor (rel_of s) c.args.said.now.lines.items) c.args.id c.in_ok-over.over.table c.in_ok-over.over.whole c.in_ok-over.over.most) agrees.same
-    (c.in_ok-over.ensures c.args.said.now.lines.items agrees.says)
 
 pub ask_sets-requires-clause-inside : goal.ask_sets-requires-clause-inside
 ask_sets-requires-clause-inside c =
@@ -36,14 +28,13 @@ returns-then-tells_as_much-clause-asked c =
     let P = program_of c.args.judged.now.program.now in
     let sets = c.args.judged.now.sets.now in
     let rel = rel_of sets in
-    let m = c.args.id in
+    let m = c.args.over.now.method in
     let lines = c.args.said.now.lines.items in
     let floors = c.args.said.now.floors in
     let required = (method_of c.args.method.now).requires_ in
-    let over = c.in_ok-over.over in
+    let over = c.args.over.now in
     let agrees = c.requires.agrees in
     let body : c.args.is_said ≡ true = search rules in
     let much : c.tells_as_much.result ≡ true = search rules in
-    let is = subst (λ s. IsSaidOver P (rel_of s) (floor (rel_of s) lines) m over.table over.whole over.most) agrees.same (c.in_ok-over.ensures lines agrees.says) in
     said_asked P rel (cells_in m required (subsets_of (rel m))) lines
-    (said_of_bodies P rel m required lines (over_said P sets floors.sets.now floors.tables.items lines agrees m over.table over.whole over.most is (sym c.tells_as_much.ensures ∙ much)) (c.requires.body body))
+    (said_of_bodies P rel m required lines (over_said P sets floors.sets.now floors.tables.items lines agrees m over.table over.whole over.most c.requires.said (sym c.tells_as_much.ensures ∙ much)) (c.requires.body body))

@@ -10,6 +10,9 @@ returns-then-not-spend-clause-less c = λ e.
     let none : c.spend.result ≡ false = search rules in
     omega (arith, few, c.overriding_cost.ensures, c.spend.ensures.over none)
 
+pub over_table-requires-clause-known : goal.over_table-requires-clause-known
+over_table-requires-clause-known c = λ m asleep. absurd (c.in_ok-none.ensures.none m asleep)
+
 pub returns-clause-spent : goal.returns-clause-spent
 returns-clause-spent c = λ e.
     let few = row_few (program_of c.args.judged.now.program.now) c.args.judged.now.over.now c.args.method c.of.result.now c.requires.over c.of.ensures in

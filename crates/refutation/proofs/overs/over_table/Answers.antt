@@ -27,7 +27,7 @@ returns-clause-tells c = λ whole.
     let its = c.rel-rel.result.now in
     let grouped = subst (λ told. IfSome told (λ (gs : Vec Group Global). (H : Held) → IsSubset H (has_path its) → said_in_groups its gs.items H ≡ joined_over rel (said_by rel tables) c.of.result.now H)) c.in-Some.is c.in_ok-groups.ensures in
     let tells = tells_all P rel tables c.args.judged.now.over.now c.args.method c.of.result.now its c.as_mut_slice.result.now table c.as_slice.result.now
-    c.requires c.of.ensures c.rel-rel.ensures (c.as_mut_slice.ensures.value ∙ c.in_ok-basics.ensures)
+    c.requires.over c.of.ensures c.rel-rel.ensures (c.as_mut_slice.ensures.value ∙ c.in_ok-basics.ensures)
     (λ H part. ap (λ gs. said_in_groups its gs H) c.as_slice.ensures.value ∙ grouped H part) (c.join_groups-whole.ensures whole) in
     let size : length table ≡ length basics.items = c.join_groups-whole.auto.table ∙ ap length c.as_mut_slice.ensures.value in
     subst (λ t. (H : Held) → IsSubset H (has_path (rel c.args.method)) → table_entry (rel c.args.method) t H ≡ joined_over rel (said_by rel tables) (overriding P c.args.method) H) (sym (whole_written basics.len table basics.items basics.ok.0 size)) tells

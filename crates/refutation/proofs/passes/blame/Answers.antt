@@ -30,6 +30,12 @@ passes-requires-clause-settled c = none_settled (program_of c.args.program.now) 
 pub passes-requires-clause-bodies : goal.passes-requires-clause-bodies
 passes-requires-clause-bodies c = none_body_settled (program_of c.args.program.now) (rel_of c.args.sets.now) c.new-lines.result.items c.in_ok-bodies.bodies c.in_ok-bodies.ensures.wait
 
+pub passes-requires-clause-known : goal.passes-requires-clause-known
+passes-requires-clause-known c = record {
+  size = c.in_ok-known.ensures.size ∙ same_count method_of c.methods-count.result.now (program_of c.args.program.now).methods c.methods-count.ensures;
+  told = λ m asleep. absurd (c.in_ok-known.ensures.none m asleep);
+}
+
 pub returns-then-branch-clause-certificate : goal.returns-then-branch-clause-certificate
 returns-then-branch-clause-certificate c =
     let P = program_of c.args.program.now in

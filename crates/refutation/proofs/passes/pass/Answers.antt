@@ -20,6 +20,7 @@ loop-place-init c =
       body_size = refl;
       settled = c.requires.settled;
       bodies = c.requires.bodies;
+      known = c.requires.known;
       within = within;
       passed = skip_settled P (rel_of c.args.asking.now.judged.now.sets.now) c.args.said.now.lines.items c.args.waits.now.methods 0 c.next-place.result c.requires.settled (omega arith) within next.asleep;
     }
@@ -57,6 +58,7 @@ loop-place-preserved c =
       body_size = c.ask_noting.ensures.body_size ∙ before.body_size;
       settled = settled;
       bodies = c.in_ok-ask_noting.ensures.bodies kept;
+      known = c.in_ok-ask_noting.ensures.known kept;
       within = within;
       passed = before.passed
           ∙ method_step P rel c.methods-methods.result.now place place c.index-methods-place.result c.loop-place.said.lines.items new c.in_ok-ask_noting.field-0
