@@ -20,8 +20,8 @@ use Rattle.rules.proofs.CallsSame.{first_false, second_false}
 use Rattle.refutation.specs.Lines.{LineData, floor, joined_over}
 use Rattle.refutation.specs.Tables.{said_by}
 use Rattle.refutation.specs.Ends.{KeptAgrees}
-use Rattle.refutation.specs.Overs.{TellsOver, TellsRow, AreTold}
-use Rattle.refutation.specs.Waiting.{Adds, AreWoken, IsAsleep, AreKnown}
+use Rattle.refutation.specs.Overs.{TellsOver, TellsRow, AreOversTold}
+use Rattle.refutation.specs.Waiting.{Adds, AreWoken, IsAsleep, AreOversKnown}
 use Rattle.refutation.proofs.Sets.{const_joined, join_const, join_assoc}
 use Rattle.refutation.proofs.Reached.{said_in}
 use Rattle.refutation.proofs.RiseLemmas.{others_stay}
@@ -38,7 +38,7 @@ pub tells_row : (P : Program) (rel : ℕ → List PathData) (A : Assignment) (ro
 tells_row P rel A rows m table whole are tells e H part = tells e H part ∙ sym (row_same rel A H P rows m are)
 
 pub kept_more : (rows : List (List ℕ)) (rel : ℕ → List PathData) (A : Assignment) (tables now : List (List Basic)) (waits next : List Bool) (m : ℕ) (table : List Basic) → m < length tables → now ≡ slice_set tables m table → IsAsleep waits next m
-    → AreTold rows rel A tables waits → TellsRow rel A m (row_at rows m) table → AreTold rows rel A now next
+    → AreOversTold rows rel A tables waits → TellsRow rel A m (row_at rows m) table → AreOversTold rows rel A now next
 kept_more rows rel A tables now waits next m table below put sleeps told tells n asleep = by (n == m) refl
   where
     by : (b : Bool) → (n == m) ≡ b → TellsRow rel A n (row_at rows n) (row_at now n)
@@ -85,14 +85,14 @@ front_done rel A H (n ∷ ns) b none = absurd (omega (arith, none))
 
 -- what the tables of all methods say, the lines say
 pub told_by : (P : Program) (sets kept : List MethodPaths) (rows : List (List Basic)) (lines : List LineData) (overs : List (List ℕ)) (tables : List (List Basic)) (waits : List Bool) → KeptAgrees P sets kept rows lines
-    → AreTold overs (rel_of sets) (floor (rel_of sets) lines) tables waits → AreTold overs (rel_of kept) (said_by (rel_of kept) rows) tables waits
+    → AreOversTold overs (rel_of sets) (floor (rel_of sets) lines) tables waits → AreOversTold overs (rel_of kept) (said_by (rel_of kept) rows) tables waits
 told_by P sets kept rows lines overs tables waits agrees told =
-    subst (λ (A : Assignment). AreTold overs (rel_of kept) A tables waits) (sym agrees.says.says) (subst (λ s. AreTold overs (rel_of s) (floor (rel_of s) lines) tables waits) (sym agrees.same) told)
+    subst (λ (A : Assignment). AreOversTold overs (rel_of kept) A tables waits) (sym agrees.says.says) (subst (λ s. AreOversTold overs (rel_of s) (floor (rel_of s) lines) tables waits) (sym agrees.same) told)
 
 pub told_still : (P : Program) (sets kept : List MethodPaths) (rows : List (List Basic)) (lines : List LineData) (overs : List (List ℕ)) (tables : List (List Basic)) (waits : List Bool) → KeptAgrees P sets kept rows lines
-    → AreTold overs (rel_of kept) (said_by (rel_of kept) rows) tables waits → AreTold overs (rel_of sets) (floor (rel_of sets) lines) tables waits
+    → AreOversTold overs (rel_of kept) (said_by (rel_of kept) rows) tables waits → AreOversTold overs (rel_of sets) (floor (rel_of sets) lines) tables waits
 told_still P sets kept rows lines overs tables waits agrees told =
-    subst (λ s. AreTold overs (rel_of s) (floor (rel_of s) lines) tables waits) agrees.same (subst (λ (A : Assignment). AreTold overs (rel_of kept) A tables waits) agrees.says.says told)
+    subst (λ s. AreOversTold overs (rel_of s) (floor (rel_of s) lines) tables waits) agrees.same (subst (λ (A : Assignment). AreOversTold overs (rel_of kept) A tables waits) agrees.says.says told)
 
 module _ (P : Program) (rel : ℕ → List PathData) (m : ℕ) (old new : List LineData) (adds : Adds m old new) where
   -- of methods without the one that rose as much is said
@@ -105,7 +105,7 @@ module _ (P : Program) (rel : ℕ → List PathData) (m : ℕ) (old new : List L
 
   -- where the tables of those that it overrides wait
   pub known_risen : (overs callers : List (List ℕ)) (tables : List (List Basic)) (waits now : List Bool) (looking : List ℕ) → AreCallers P (row_at overs) callers → m < length callers → looking ≡ callers_of_method callers m
-      → AreKnown P overs rel old tables waits → length now ≡ length waits → AreWoken waits now looking → AreKnown P overs rel new tables now
+      → AreOversKnown P overs rel old tables waits → length now ≡ length waits → AreWoken waits now looking → AreOversKnown P overs rel new tables now
   known_risen overs callers tables waits now looking all many theirs known same wakes = record {
     size = same ∙ known.size;
     told = λ n asleep H part.

@@ -4,7 +4,7 @@
 -- rose (RiseLemmas), those that wait within a range (Ranges), the maker (MakerLemmas), lines that are said already (Known) and the
 -- checker (CheckLemmas), with the work that it takes (Rooms, Cheap) and what a line reaches (Reached); tables that are read along the
 -- relevant paths of another method (StepLemmas), of what is said of groups of methods (GroupTables), and of all that override one
--- (OverTables).
+-- (OverTables), and what is kept of these (KnownOver).
 pub mod Sets
 pub mod Over
 pub mod Below

@@ -55,5 +55,5 @@ abbrev pub TellsRow : (rel : ℕ → List PathData) → Assignment → ℕ → (
 TellsRow rel A m methods table = (H : Held) → IsSubset H (has_path (rel m)) → table_entry (rel m) table H ≡ joined_over rel A methods H
 
 -- of each method that isn't unknown its table tells what an assignment says of those in its row
-abbrev pub AreTold : (rows : List (List ℕ)) → (rel : ℕ → List PathData) → Assignment → (tables : List (List Basic)) → (unknown : List Bool) → Type 0
-AreTold rows rel A tables unknown = (m : ℕ) → slice_get unknown m ≡ Some false → TellsRow rel A m (row_at rows m) (row_at tables m)
+abbrev pub AreOversTold : (rows : List (List ℕ)) → (rel : ℕ → List PathData) → Assignment → (tables : List (List Basic)) → (unknown : List Bool) → Type 0
+AreOversTold rows rel A tables unknown = (m : ℕ) → slice_get unknown m ≡ Some false → TellsRow rel A m (row_at rows m) (row_at tables m)

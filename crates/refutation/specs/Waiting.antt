@@ -10,7 +10,7 @@ use Rattle.core_program.specs.Core.{Program, Method}
 use Rattle.rules.specs.Called.{has_method}
 use Rattle.rules.specs.Rules.{AtMost}
 use Rattle.refutation.specs.Lines.{LineData, floor, overriding, joined_over, body_effect}
-use Rattle.refutation.specs.Overs.{AreTold}
+use Rattle.refutation.specs.Overs.{AreOversTold}
 use Rattle.refutation.specs.Passes.{MethodAtSet, cells_in, subsets_of, floor_at, up_at}
 
 -- the new lines are the old ones, and some more of this method behind them
@@ -63,6 +63,6 @@ pub record WaitWithin (waits : List Bool) (first end : ℕ) : Type 0 where
   pub each : (m : ℕ) → slice_get waits m ≡ Some true → (first ≤ m) × (m < end)
 
 -- of each method, the tables tell what the lines say of those that override it, where they don't wait to be made
-pub record AreKnown (P : Program) (rows : List (List ℕ)) (rel : ℕ → List PathData) (lines : List LineData) (tables : List (List Basic)) (waits : List Bool) : Type 0 where
+pub record AreOversKnown (P : Program) (rows : List (List ℕ)) (rel : ℕ → List PathData) (lines : List LineData) (tables : List (List Basic)) (waits : List Bool) : Type 0 where
   pub size : length waits ≡ length P.methods
-  pub told : AreTold rows rel (floor rel lines) tables waits
+  pub told : AreOversTold rows rel (floor rel lines) tables waits

@@ -9,7 +9,7 @@ ghost use Rattle.rules.specs.Rules.{IsSubset};
 ghost use Rattle.rules.specs.Search.{row_at};
 ghost use Rattle.refutation.specs.Lines.{joined_over};
 ghost use Rattle.refutation.specs.Tables.{said_by, table_entry};
-ghost use Rattle.refutation.specs.Overs.{AreTold, IsAlike, joined_each, said_in_groups};
+ghost use Rattle.refutation.specs.Overs.{AreOversTold, IsAlike, joined_each, said_in_groups};
 ghost use Rattle.refutation.specs.Steps.{entry_along};
 
 use crate::floors::{Table, table_at};
@@ -150,7 +150,7 @@ fn join_front<'a>(
     behind: &'a [MethodId],
 ) -> Result<Option<&'a [MethodId]>, NoMemory>
     requires { let all = rel_of sight.now.floors.now.sets.now in
-        AreTold sight.now.over.now all (said_by all sight.now.floors.now.tables.items) sight.now.known.now.tables.items sight.now.known.now.unknown }
+        AreOversTold sight.now.over.now all (said_by all sight.now.floors.now.tables.items) sight.now.known.now.tables.items sight.now.known.now.unknown }
     ensures fewer { IfOk result (λ told. IfSome told (λ left. length left.now ≤ length behind.now)) }
     ensures joined { let all = rel_of sight.now.floors.now.sets.now in let said = said_by all sight.now.floors.now.tables.items in
         IfOk result (λ told. IfSome told (λ left. (H : Held) → IsSubset H (has_path rel.now) →
@@ -177,7 +177,7 @@ pub(crate) fn groups_of(
     methods: &[MethodId],
 ) -> Result<Option<Vec<Group>>, NoMemory>
     requires { let all = rel_of sight.now.floors.now.sets.now in
-        AreTold sight.now.over.now all (said_by all sight.now.floors.now.tables.items) sight.now.known.now.tables.items sight.now.known.now.unknown }
+        AreOversTold sight.now.over.now all (said_by all sight.now.floors.now.tables.items) sight.now.known.now.tables.items sight.now.known.now.unknown }
     ensures { let all = rel_of sight.now.floors.now.sets.now in
         IfOk result (λ told. IfSome told (λ groups. (H : Held) → IsSubset H (has_path rel.now) → said_in_groups rel.now groups.items H ≡ joined_over all (said_by all sight.now.floors.now.tables.items) methods.now H)) }
 {

@@ -6,7 +6,7 @@ ghost use Rattle.rules.specs.Overriding.{AreOverriders};
 ghost use Rattle.rules.specs.Search.{row_at};
 ghost use Rattle.refutation.specs.Lines.{LineData, floor};
 ghost use Rattle.refutation.specs.Tables.{TablesSay, said_by};
-ghost use Rattle.refutation.specs.Overs.{AreTold, IsSaidOver, TellsOver, SaysNoMore, below_each};
+ghost use Rattle.refutation.specs.Overs.{AreOversTold, IsSaidOver, TellsOver, SaysNoMore, below_each};
 
 use crate::ask::said_at_most;
 use crate::floors::{Floors, Table, consts, table_at};
@@ -48,7 +48,7 @@ pub(crate) fn over_table(
 ) -> Result<OverTable, NoMemory>
     requires over { AreOverriders (program_of judged.now.program.now) judged.now.over.now }
     requires known { let rel = rel_of floors.now.sets.now in
-        AreTold judged.now.over.now rel (said_by rel floors.now.tables.items) known.now.tables.items known.now.unknown }
+        AreOversTold judged.now.over.now rel (said_by rel floors.now.tables.items) known.now.tables.items known.now.unknown }
     ensures its { IfOk result (λ o. o.method ≡ method) }
     ensures tells { let rel = rel_of floors.now.sets.now in
         IfOk result (λ o. TellsOver (program_of judged.now.program.now) rel (said_by rel floors.now.tables.items) method o.table o.whole) }
@@ -85,10 +85,10 @@ fn learn(
 ) -> Result<(), NoMemory>
     requires over { AreOverriders (program_of judged.now.program.now) judged.now.over.now }
     requires known { let rel = rel_of floors.now.sets.now in
-        AreTold judged.now.over.now rel (said_by rel floors.now.tables.items) known.old.tables.items known.old.unknown }
+        AreOversTold judged.now.over.now rel (said_by rel floors.now.tables.items) known.old.tables.items known.old.unknown }
     ensures size { length known.new.unknown ≡ length known.old.unknown }
     ensures known { let rel = rel_of floors.now.sets.now in
-        OnOk result (AreTold judged.now.over.now rel (said_by rel floors.now.tables.items) known.new.tables.items known.new.unknown) }
+        OnOk result (AreOversTold judged.now.over.now rel (said_by rel floors.now.tables.items) known.new.tables.items known.new.unknown) }
 {
     let made = over_table(alloc, judged, floors, known, method)?;
     if made.whole {
@@ -97,32 +97,36 @@ fn learn(
     Ok(())
 }
 
-/// The method at a place of those that override one, where its table is to be made: it is unknown, tells of all relevant paths of that one,
-/// and the methods that override it stand right behind it.
-fn wanted(
+/// The method at a place of those that override one, where others override it and its table is unknown.
+fn unknown_at(
     judged: &Judged<'_>,
-    floors: &Floors<'_>,
     known: &OverTables,
     method: MethodId,
     place: usize,
 ) -> Option<MethodId> {
+    let under = *judged.over.of(method).get(place)?;
+    if known.is_known(under) || judged.over.of(under).is_empty() {
+        return None;
+    }
+    Some(under)
+}
+
+/// Whether the table of the method at a place of those that override one tells of all relevant paths of that one, and the methods that
+/// override it stand right behind it.
+fn is_wanted(
+    judged: &Judged<'_>,
+    floors: &Floors<'_>,
+    method: MethodId,
+    place: usize,
+    under: MethodId,
+) -> bool {
     let methods = judged.over.of(method);
     if place >= methods.len() {
-        return None;
+        return false;
     }
-    let (_, rest) = methods.split_at(place);
-    let Some((under, behind)) = rest.split_first() else {
-        return None;
-    };
-    let over = judged.over.of(*under);
-    if over.is_empty() || known.is_known(*under) || after(behind, over).is_none() {
-        return None;
-    }
-    if has_all(floors.sets.rel(*under), floors.sets.rel(method)) {
-        Some(*under)
-    } else {
-        None
-    }
+    let (_, behind) = methods.split_at(place + 1);
+    has_all(floors.sets.rel(under), floors.sets.rel(method))
+        && after(behind, judged.over.of(under)).is_some()
 }
 
 /// Makes the table of the method at a place of those that override one, where it is to be made.
@@ -136,14 +140,19 @@ fn learn_at(
 ) -> Result<(), NoMemory>
     requires over { AreOverriders (program_of judged.now.program.now) judged.now.over.now }
     requires known { let rel = rel_of floors.now.sets.now in
-        AreTold judged.now.over.now rel (said_by rel floors.now.tables.items) known.old.tables.items known.old.unknown }
+        AreOversTold judged.now.over.now rel (said_by rel floors.now.tables.items) known.old.tables.items known.old.unknown }
     ensures size { length known.new.unknown ≡ length known.old.unknown }
     ensures known { let rel = rel_of floors.now.sets.now in
-        OnOk result (AreTold judged.now.over.now rel (said_by rel floors.now.tables.items) known.new.tables.items known.new.unknown) }
+        OnOk result (AreOversTold judged.now.over.now rel (said_by rel floors.now.tables.items) known.new.tables.items known.new.unknown) }
 {
-    match wanted(judged, floors, known, method, place) {
-        Some(under) => learn(alloc, judged, floors, known, under),
-        None => Ok(()),
+    let Some(under) = unknown_at(judged, known, method, place) else {
+        return Ok(());
+    };
+    known.left = known.left.saturating_sub(judged.over.of(under).len());
+    if is_wanted(judged, floors, method, place, under) {
+        learn(alloc, judged, floors, known, under)
+    } else {
+        Ok(())
     }
 }
 
@@ -158,12 +167,12 @@ fn learn_below(
 ) -> Result<(), NoMemory>
     requires over { AreOverriders (program_of judged.now.program.now) judged.now.over.now }
     requires known { let rel = rel_of floors.now.sets.now in
-        AreTold judged.now.over.now rel (said_by rel floors.now.tables.items) known.old.tables.items known.old.unknown }
+        AreOversTold judged.now.over.now rel (said_by rel floors.now.tables.items) known.old.tables.items known.old.unknown }
     ensures size { length known.new.unknown ≡ length known.old.unknown }
     ensures known { let rel = rel_of floors.now.sets.now in
-        OnOk result (AreTold judged.now.over.now rel (said_by rel floors.now.tables.items) known.new.tables.items known.new.unknown) }
+        OnOk result (AreOversTold judged.now.over.now rel (said_by rel floors.now.tables.items) known.new.tables.items known.new.unknown) }
 {
-    if known.is_known(method) {
+    if known.is_known(method) || known.left == 0 {
         return Ok(());
     }
     let mut place = judged.over.of(method).len();
@@ -184,10 +193,10 @@ pub(crate) fn said_of_overriding(
 ) -> Result<OverSaid, NoMemory>
     requires over { AreOverriders (program_of judged.now.program.now) judged.now.over.now }
     requires known { let rel = rel_of floors.now.sets.now in
-        AreTold judged.now.over.now rel (said_by rel floors.now.tables.items) known.old.tables.items known.old.unknown }
+        AreOversTold judged.now.over.now rel (said_by rel floors.now.tables.items) known.old.tables.items known.old.unknown }
     ensures size { length known.new.unknown ≡ length known.old.unknown }
     ensures known { let rel = rel_of floors.now.sets.now in
-        OnOk result (AreTold judged.now.over.now rel (said_by rel floors.now.tables.items) known.new.tables.items known.new.unknown) }
+        OnOk result (AreOversTold judged.now.over.now rel (said_by rel floors.now.tables.items) known.new.tables.items known.new.unknown) }
     ensures its { IfOk result (λ o. o.method ≡ method) }
     ensures said { let rel = rel_of floors.now.sets.now in
         (lines : List LineData) → TablesSay rel floors.now.tables.items lines →

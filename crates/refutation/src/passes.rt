@@ -8,7 +8,7 @@ ghost use Rattle.rules.specs.Called.{AreCallers};
 ghost use Rattle.refutation.specs.Certificates.{IsCertificate};
 ghost use Rattle.refutation.specs.Passes.{Passes, pass, cells_of};
 ghost use Rattle.refutation.specs.Ends.{KeptAgrees, IsBlameEnd};
-ghost use Rattle.refutation.specs.Waiting.{AreSettled, AreBodiesSettled, AreKnown};
+ghost use Rattle.refutation.specs.Waiting.{AreSettled, AreBodiesSettled, AreOversKnown};
 
 use crate::floors::Floors;
 use crate::judged::{Asking, Judged, NoneOverriding};
@@ -62,13 +62,13 @@ fn pass(
     requires agrees { KeptAgrees (program_of asking.now.judged.now.program.now) asking.now.judged.now.sets.now said.old.floors.sets.now said.old.floors.tables.items said.old.lines.items }
     requires settled { AreSettled (program_of asking.now.judged.now.program.now) (rel_of asking.now.judged.now.sets.now) said.old.lines.items waits.old.methods }
     requires bodies { AreBodiesSettled (program_of asking.now.judged.now.program.now) (rel_of asking.now.judged.now.sets.now) said.old.lines.items waits.old.bodies }
-    requires known { AreKnown (program_of asking.now.judged.now.program.now) asking.now.judged.now.over.now (rel_of asking.now.judged.now.sets.now) said.old.lines.items waits.old.known.tables.items waits.old.known.unknown }
+    requires known { AreOversKnown (program_of asking.now.judged.now.program.now) asking.now.judged.now.over.now (rel_of asking.now.judged.now.sets.now) said.old.lines.items waits.old.known.tables.items waits.old.known.unknown }
     ensures agrees { OnOk result (KeptAgrees (program_of asking.now.judged.now.program.now) asking.now.judged.now.sets.now said.new.floors.sets.now said.new.floors.tables.items said.new.lines.items) }
     ensures size { length waits.new.methods ≡ length waits.old.methods }
     ensures body_size { length waits.new.bodies ≡ length waits.old.bodies }
     ensures settled { IfOk result (λ broken. broken ≡ false → AreSettled (program_of asking.now.judged.now.program.now) (rel_of asking.now.judged.now.sets.now) said.new.lines.items waits.new.methods) }
     ensures bodies { IfOk result (λ broken. broken ≡ false → AreBodiesSettled (program_of asking.now.judged.now.program.now) (rel_of asking.now.judged.now.sets.now) said.new.lines.items waits.new.bodies) }
-    ensures known { IfOk result (λ broken. broken ≡ false → AreKnown (program_of asking.now.judged.now.program.now) asking.now.judged.now.over.now (rel_of asking.now.judged.now.sets.now) said.new.lines.items waits.new.known.tables.items waits.new.known.unknown) }
+    ensures known { IfOk result (λ broken. broken ≡ false → AreOversKnown (program_of asking.now.judged.now.program.now) asking.now.judged.now.over.now (rel_of asking.now.judged.now.sets.now) said.new.lines.items waits.new.known.tables.items waits.new.known.unknown) }
     ensures passed { IfOk result (λ broken. let P = program_of asking.now.judged.now.program.now in let rel = rel_of asking.now.judged.now.sets.now in
         pass P rel (cells_of P rel) said.old.lines.items ≡ record { all = said.new.lines.items; broken = broken }) }
 {
@@ -106,7 +106,7 @@ fn passes(
     requires none { said.old.lines.items ≡ [] }
     requires settled { AreSettled (program_of asking.now.judged.now.program.now) (rel_of asking.now.judged.now.sets.now) said.old.lines.items waits.old.methods }
     requires bodies { AreBodiesSettled (program_of asking.now.judged.now.program.now) (rel_of asking.now.judged.now.sets.now) said.old.lines.items waits.old.bodies }
-    requires known { AreKnown (program_of asking.now.judged.now.program.now) asking.now.judged.now.over.now (rel_of asking.now.judged.now.sets.now) said.old.lines.items waits.old.known.tables.items waits.old.known.unknown }
+    requires known { AreOversKnown (program_of asking.now.judged.now.program.now) asking.now.judged.now.over.now (rel_of asking.now.judged.now.sets.now) said.old.lines.items waits.old.known.tables.items waits.old.known.unknown }
     ensures agrees { OnOk result (KeptAgrees (program_of asking.now.judged.now.program.now) asking.now.judged.now.sets.now said.new.floors.sets.now said.new.floors.tables.items said.new.lines.items) }
     ensures passes { IfOk result (λ broken. Passes (program_of asking.now.judged.now.program.now) (rel_of asking.now.judged.now.sets.now) [] (record { all = said.new.lines.items; broken = broken })) }
 {

@@ -6,7 +6,7 @@ ghost use Rattle.algebra.specs.HeldPaths.{has_path};
 ghost use Rattle.rules.specs.Effect.{Assignment};
 ghost use Rattle.rules.specs.Near.{rel_of};
 ghost use Rattle.rules.specs.Search.{row_at};
-ghost use Rattle.refutation.specs.Overs.{AreTold, TellsRow};
+ghost use Rattle.refutation.specs.Overs.{AreOversTold, TellsRow};
 
 use crate::floors::{Floors, Table, place_of};
 use crate::waits::Waits;
@@ -15,11 +15,16 @@ use paths::{MethodId, Path};
 use rules::OverridingMethods;
 use std::alloc::{AllocError as NoMemory, Global};
 
-/// A table of what is said of the methods that override one, for each method. Of those that wait it isn't known.
+/// The most methods that are passed over while tables are made ahead. Then no more are made: it takes longer without them.
+const MOST_AHEAD: usize = 1 << 28;
+
+/// A table of what is said of the methods that override one, for each method. Of those that wait it isn't known. So many methods may still
+/// be passed over while tables are made ahead.
 #[derive(Drop)]
 pub(crate) struct OverTables {
     pub(crate) tables: Vec<Table>,
     pub(crate) unknown: Waits,
+    pub(crate) left: usize,
 }
 
 /// What is said of each method, and what is known of those that override it.
@@ -43,7 +48,11 @@ impl OverTables {
                 basics: Vec::new(alloc),
             })?;
         }
-        Ok(OverTables { tables, unknown })
+        Ok(OverTables {
+            tables,
+            unknown,
+            left: MOST_AHEAD,
+        })
     }
 
     /// Whether what is said of the methods that override one is known.
@@ -57,8 +66,8 @@ impl OverTables {
     pub(crate) fn keep(&mut self, method: MethodId, table: Table)
         ensures size { length self.new.unknown ≡ length self.old.unknown }
         ensures kept { (rows : List (List ℕ)) (rel : ℕ → List PathData) (A : Assignment) →
-            AreTold rows rel A self.old.tables.items self.old.unknown → TellsRow rel A method (row_at rows method) table →
-            AreTold rows rel A self.new.tables.items self.new.unknown }
+            AreOversTold rows rel A self.old.tables.items self.old.unknown → TellsRow rel A method (row_at rows method) table →
+            AreOversTold rows rel A self.new.tables.items self.new.unknown }
     {
         let place = place_of(method);
         if place >= self.tables.len() {

@@ -9,7 +9,7 @@ ghost use Rattle.refutation.specs.Ends.{KeptAgrees, IsPass};
 ghost use Rattle.refutation.specs.Passes.{cells_in, subsets_of};
 ghost use Rattle.refutation.specs.Overs.{SaysNoMore};
 ghost use Rattle.refutation.specs.Tables.{said_by};
-ghost use Rattle.refutation.specs.Waiting.{AreSettled, AreBodiesSettled, AreKnown, AreWoken, AreWokenBut};
+ghost use Rattle.refutation.specs.Waiting.{AreSettled, AreBodiesSettled, AreOversKnown, AreWoken, AreWokenBut};
 
 use crate::ask::ask_method;
 use crate::floors::{Floors, method_at};
@@ -104,7 +104,7 @@ pub(crate) fn ask_noting(
     requires agrees { KeptAgrees (program_of asking.now.judged.now.program.now) asking.now.judged.now.sets.now said.old.floors.sets.now said.old.floors.tables.items said.old.lines.items }
     requires settled { AreSettled (program_of asking.now.judged.now.program.now) (rel_of asking.now.judged.now.sets.now) said.old.lines.items waits.old.methods }
     requires bodies { AreBodiesSettled (program_of asking.now.judged.now.program.now) (rel_of asking.now.judged.now.sets.now) said.old.lines.items waits.old.bodies }
-    requires known { AreKnown (program_of asking.now.judged.now.program.now) asking.now.judged.now.over.now (rel_of asking.now.judged.now.sets.now) said.old.lines.items waits.old.known.tables.items waits.old.known.unknown }
+    requires known { AreOversKnown (program_of asking.now.judged.now.program.now) asking.now.judged.now.over.now (rel_of asking.now.judged.now.sets.now) said.old.lines.items waits.old.known.tables.items waits.old.known.unknown }
     ensures agrees { OnOk result (KeptAgrees (program_of asking.now.judged.now.program.now) asking.now.judged.now.sets.now said.new.floors.sets.now said.new.floors.tables.items said.new.lines.items) }
     ensures asked { IfOk result (λ broken. let rel = rel_of asking.now.judged.now.sets.now in
         IsPass (program_of asking.now.judged.now.program.now) rel (cells_in id (method_of method.now).requires_ (subsets_of (rel id))) said.old.lines.items said.new.lines.items broken) }
@@ -112,7 +112,7 @@ pub(crate) fn ask_noting(
     ensures body_size { length waits.new.bodies ≡ length waits.old.bodies }
     ensures settled { IfOk result (λ broken. broken ≡ false → AreSettled (program_of asking.now.judged.now.program.now) (rel_of asking.now.judged.now.sets.now) said.new.lines.items waits.new.methods) }
     ensures bodies { IfOk result (λ broken. broken ≡ false → AreBodiesSettled (program_of asking.now.judged.now.program.now) (rel_of asking.now.judged.now.sets.now) said.new.lines.items waits.new.bodies) }
-    ensures known { IfOk result (λ broken. broken ≡ false → AreKnown (program_of asking.now.judged.now.program.now) asking.now.judged.now.over.now (rel_of asking.now.judged.now.sets.now) said.new.lines.items waits.new.known.tables.items waits.new.known.unknown) }
+    ensures known { IfOk result (λ broken. broken ≡ false → AreOversKnown (program_of asking.now.judged.now.program.now) asking.now.judged.now.over.now (rel_of asking.now.judged.now.sets.now) said.new.lines.items waits.new.known.tables.items waits.new.known.unknown) }
 {
     let before = said.lines.len();
     let place = id.0 as usize;

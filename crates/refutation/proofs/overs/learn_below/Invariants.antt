@@ -1,6 +1,6 @@
 use Rattle.std.proofs.Common.{◌≡◌, length}
 use Rattle.rules.specs.Near.{rel_of}
-use Rattle.refutation.specs.Overs.{AreTold}
+use Rattle.refutation.specs.Overs.{AreOversTold}
 use Rattle.refutation.specs.Tables.{said_by}
 use Rattle.refutation.proofs.overs.learn_below.Given as goal
 
@@ -10,7 +10,7 @@ invariant-places l =
     let rel = rel_of l.floors.sets.now in
     record {
       size : length l.known.unknown ≡ length l.fn.known.unknown;
-      told : AreTold l.judged.over.now rel (said_by rel l.floors.tables.items) l.known.tables.items l.known.unknown;
+      told : AreOversTold l.judged.over.now rel (said_by rel l.floors.tables.items) l.known.tables.items l.known.unknown;
     }
 
 abbrev pub decreases-places : goal.decreases-places

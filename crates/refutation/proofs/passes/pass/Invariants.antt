@@ -3,7 +3,7 @@ use Rattle.core_program.specs.Views.{program_of}
 use Rattle.rules.specs.Near.{rel_of}
 use Rattle.refutation.specs.Passes.{cells_from, cells_of, pass}
 use Rattle.refutation.specs.Ends.{KeptAgrees}
-use Rattle.refutation.specs.Waiting.{AreSettled, AreBodiesSettled, AreKnown}
+use Rattle.refutation.specs.Waiting.{AreSettled, AreBodiesSettled, AreOversKnown}
 use Rattle.refutation.proofs.passes.pass.Given as goal
 
 -- the rest of the pass goes as the whole from the start
@@ -16,7 +16,7 @@ invariant-loop-place l =
       body_size : length l.waits.bodies ≡ length l.fn.waits.bodies;
       settled : AreSettled P rel l.said.lines.items l.waits.methods;
       bodies : AreBodiesSettled P rel l.said.lines.items l.waits.bodies;
-      known : AreKnown P l.asking.judged.now.over.now rel l.said.lines.items l.waits.known.tables.items l.waits.known.unknown;
+      known : AreOversKnown P l.asking.judged.now.over.now rel l.said.lines.items l.waits.known.tables.items l.waits.known.unknown;
       within : l.place ≤ length P.methods;
       passed : pass P rel (cells_of P rel) l.fn.said.lines.items ≡ pass P rel (cells_from rel l.place (drop l.place P.methods)) l.said.lines.items;
     }

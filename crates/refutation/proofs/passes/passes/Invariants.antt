@@ -3,7 +3,7 @@ use Rattle.core_program.specs.Views.{program_of}
 use Rattle.rules.specs.Near.{rel_of}
 use Rattle.refutation.specs.Passes.{cells_of}
 use Rattle.refutation.specs.Ends.{KeptAgrees, IsGoing}
-use Rattle.refutation.specs.Waiting.{AreSettled, AreBodiesSettled, AreKnown}
+use Rattle.refutation.specs.Waiting.{AreSettled, AreBodiesSettled, AreOversKnown}
 use Rattle.refutation.proofs.PassLaws.{room}
 use Rattle.refutation.proofs.passes.passes.Given as goal
 
@@ -17,7 +17,7 @@ invariant-rounds l =
       body_size : length l.waits.bodies ≡ length P.methods;
       settled : AreSettled P (rel_of l.asking.judged.now.sets.now) l.said.lines.items l.waits.methods;
       bodies : AreBodiesSettled P (rel_of l.asking.judged.now.sets.now) l.said.lines.items l.waits.bodies;
-      known : AreKnown P l.asking.judged.now.over.now (rel_of l.asking.judged.now.sets.now) l.said.lines.items l.waits.known.tables.items l.waits.known.unknown;
+      known : AreOversKnown P l.asking.judged.now.over.now (rel_of l.asking.judged.now.sets.now) l.said.lines.items l.waits.known.tables.items l.waits.known.unknown;
       going : IsGoing P (rel_of l.asking.judged.now.sets.now) l.said.lines.items;
     }
 

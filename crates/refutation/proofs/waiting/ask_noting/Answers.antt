@@ -9,7 +9,7 @@ use Rattle.refutation.specs.Passes.{cells_in, subsets_of}
 use Rattle.refutation.specs.Lines.{floor}
 use Rattle.refutation.specs.Ends.{IsPass}
 use Rattle.refutation.specs.Overs.{IsSaidOver}
-use Rattle.refutation.specs.Waiting.{Adds, AreBodiesSaid, AreKnown, IsAsleep, cells_with}
+use Rattle.refutation.specs.Waiting.{Adds, AreBodiesSaid, AreOversKnown, IsAsleep, cells_with}
 use Rattle.refutation.proofs.BodyLemmas.{bodies_asleep, bodies_woken}
 use Rattle.refutation.proofs.KnownOver.{told_by, told_still, known_risen}
 use Rattle.refutation.proofs.RiseLemmas.{settled_risen, no_more_kept}
@@ -147,7 +147,7 @@ returns-then-len-before-clause-known c =
     let known = c.said_of_overriding.new.known in
     let adds = subst (λ k. Adds k old new) c.in_ok-over.ensures.its c.in_ok-ask_method.ensures.adds in
     let same = adds_nothing c.args.id old new adds (omega (arith, c.if-len-before.true, c.len.ensures, c.len-before.ensures, c.ask_method.new.said.lines.ok, c.args.said.now.lines.ok)) in
-    λ e. subst (λ ls. AreKnown P rows (rel_of sets) ls known.tables.items known.unknown) (sym same) (record {
+    λ e. subst (λ ls. AreOversKnown P rows (rel_of sets) ls known.tables.items known.unknown) (sym same) (record {
       size = c.said_of_overriding.ensures.size ∙ c.requires.known.size;
       told = told_still P sets floors.sets.now floors.tables.items old rows known.tables.items known.unknown c.requires.agrees c.in_ok-over.ensures.known;
     })
@@ -163,7 +163,7 @@ returns-clause-known c =
     let new = c.ask_method.new.said.lines.items in
     let known = c.said_of_overriding.new.known in
     let below = slice_get_within P.methods c.args.id (method_of c.args.method.now) c.requires.is in
-    let before : AreKnown P rows (rel_of sets) old known.tables.items known.unknown = record {
+    let before : AreOversKnown P rows (rel_of sets) old known.tables.items known.unknown = record {
       size = c.said_of_overriding.ensures.size ∙ c.requires.known.size;
       told = told_still P sets floors.sets.now floors.tables.items old rows known.tables.items known.unknown c.requires.agrees c.in_ok-over.ensures.known;
     } in
