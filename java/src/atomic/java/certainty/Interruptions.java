@@ -81,7 +81,8 @@ public final class Interruptions {
 
         /** Whether an event of a course has a conflict with the first one. */
         boolean isFirst(Course course, Event each) {
-            return (!ofThis || each.isOfThis()) && (changesOne ? !walks && !(fills && each.finds()) && (course.looks(each) || adds && each.takes())
+            return (!ofThis || each.isOfThis()) && (changesOne
+                ? !walks && !(fills && each.finds()) && (course.looks(each) || adds && each.takes())
                 : each.writes() && !(found && each.kind().adds()) && !(walks && each.kind().tries()));
         }
 

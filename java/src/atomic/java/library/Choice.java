@@ -12,7 +12,8 @@ package atomic.java.library;
  * @param borrows whether nobody gets the first thing that it is given from it, then or later
  * @param makes the class of the new object that it gives, or null
  */
-public record Choice(Kind kind, boolean calls, boolean once, boolean fills, boolean keeps, boolean elsewhere, boolean borrows, String makes) {
+public record Choice(Kind kind, boolean calls, boolean once, boolean fills, boolean keeps, boolean elsewhere, boolean borrows,
+        String makes) {
 
     /** The steps of a call. */
     public enum Kind {
