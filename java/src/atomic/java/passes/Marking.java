@@ -23,10 +23,7 @@ public final class Marking {
     private static void part(Part part) {
         if (part instanceof Part.Access access) {
             value(access.receiver());
-            access.field().use();
-            if (access.field().guard() != null) {
-                access.field().guard().lock().forEach(Field::use);
-            }
+            field(access.field());
         } else if (part instanceof Part.Call call) {
             value(call.receiver());
             call.arguments().forEach(Marking::value);
@@ -43,11 +40,19 @@ public final class Marking {
             path(value.path());
         } else if (value instanceof Value.Through through) {
             value(through.receiver());
-            through.field().use();
+            field(through.field());
         }
     }
 
     private static void path(Path path) {
-        path.fields().forEach(Field::use);
+        path.fields().forEach(Marking::field);
+    }
+
+    /** A field, and those that lead to the lock that guards it. */
+    private static void field(Field field) {
+        field.use();
+        if (field.guard() != null) {
+            field.guard().lock().forEach(Field::use);
+        }
     }
 }
