@@ -81,8 +81,8 @@ public final class Inference {
         names = new OtherNames(all);
         all.visit(this::count);
         tallies.forEach((field, tally) -> {
-            List<Field> lock = field.mayBeGuarded() || sure && field.ordered() ? best(tally.held, tally.all, tally) : null;
-            List<Field> writing = lock == null ? best(tally.heldWriting, tally.writes, tally) : null;
+            List<Field> lock = field.mayBeGuarded() || sure && field.ordered() ? best(field, tally.held, tally.all) : null;
+            List<Field> writing = lock == null ? best(field, tally.heldWriting, tally.writes) : null;
             boolean most = writing != null && isMost(field, tally, writing);
             if (lock != null || most) {
                 field.guard(new Field.Guard(most ? writing : lock, false));
@@ -177,11 +177,17 @@ public final class Inference {
     }
 
     /** The lock that all hold, or most; of several the one that more accesses hold, and then that with the shortest name. */
-    private List<Field> best(Map<List<Field>, Integer> held, int all, Tally tally) {
-        return held.entrySet().stream().filter(each -> all > 0
+    private List<Field> best(Field field, Map<List<Field>, Integer> held, int all) {
+        Tally tally = tallies.get(field);
+        return held.entrySet().stream().filter(each -> all > 0 && isNamed(each.getKey(), field)
                 && (majority ? 100 * each.getValue() >= MOST * all : each.getValue() == all)).map(Map.Entry::getKey)
             .min(Comparator.comparing((List<Field> each) -> -held.get(each)).thenComparing(each -> -tally.held.get(each))
                 .thenComparing((one, other) -> one.equals(other) ? 0 : isBefore(one, other) ? -1 : 1)).orElse(null);
+    }
+
+    /** Whether each object with a field has such a lock, and not only one of a class below. */
+    private static boolean isNamed(List<Field> lock, Field field) {
+        return lock.isEmpty() || field.owner().fits(lock.get(0).owner());
     }
 
     /** Whether a lock has the shorter name, or that which comes first of two as long. No two locks have the same. */

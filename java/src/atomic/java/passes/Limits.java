@@ -59,13 +59,6 @@ public final class Limits {
             methods.forEach(method -> unguard(method.body()));
             methods.forEach(this::forget);
         }
-        program.shapes().forEach(Limits::dropLostGuards);
-    }
-
-    /** A field that is named, and that nothing touches, has no guard where the name of its lock is gone. */
-    private static void dropLostGuards(Shape shape) {
-        shape.fields().stream().filter(each -> each.used() && each.guard() != null
-            && !each.guard().lock().stream().allMatch(Field::used)).forEach(each -> each.guard(null));
     }
 
     /** Where many classes have statics, those of their names go that no lock has, since nothing hangs on them. */

@@ -23,7 +23,10 @@ public final class Marking {
     private static void part(Part part) {
         if (part instanceof Part.Access access) {
             value(access.receiver());
-            field(access.field());
+            access.field().use();
+            if (access.field().guard() != null) {
+                access.field().guard().lock().forEach(Field::use);
+            }
         } else if (part instanceof Part.Call call) {
             value(call.receiver());
             call.arguments().forEach(Marking::value);
@@ -40,19 +43,11 @@ public final class Marking {
             path(value.path());
         } else if (value instanceof Value.Through through) {
             value(through.receiver());
-            field(through.field());
+            through.field().use();
         }
     }
 
     private static void path(Path path) {
-        path.fields().forEach(Marking::field);
-    }
-
-    /** A field, and those that lead to the lock that guards it. */
-    private static void field(Field field) {
-        field.use();
-        if (field.guard() != null) {
-            field.guard().lock().forEach(Field::use);
-        }
+        path.fields().forEach(Field::use);
     }
 }
