@@ -50,7 +50,7 @@ public class LoyaltyBank {
         }
     }
 
-    public void enroll(String member) { // refused: alarm: one write-locked region
+    public void enroll(String member) { // accepted
         locked(write, () -> members.putIfAbsent(member, new Member()));
     }
 

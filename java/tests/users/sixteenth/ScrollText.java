@@ -22,7 +22,7 @@ public final class ScrollText {
         this.limit = limit;
     }
 
-    public ScrollText append(String part) { // refused: alarm: one write-locked region; returns this
+    public ScrollText append(String part) { // accepted
         write.lock();
         try {
             text.append(part);
@@ -52,7 +52,7 @@ public final class ScrollText {
         }
     }
 
-    public int indexOf(String target) { // refused: alarm: one read-locked region
+    public int indexOf(String target) { // accepted
         read.lock();
         try {
             return text.indexOf(target);
@@ -95,11 +95,11 @@ public final class ScrollText {
         }
     }
 
-    public Stream<String> lines() { // refused: alarm: a lazy stream, but over one immutable String taken in one region
+    public Stream<String> lines() { // accepted
         return toString().lines();
     }
 
-    public int length() { // refused: alarm: one read-locked region
+    public int length() { // accepted
         read.lock();
         try {
             return text.length();
@@ -109,7 +109,7 @@ public final class ScrollText {
     }
 
     @Override
-    public String toString() { // refused: alarm: one read-locked region
+    public String toString() { // accepted
         read.lock();
         try {
             return text.toString();

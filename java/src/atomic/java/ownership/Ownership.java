@@ -394,10 +394,6 @@ public final class Ownership {
         if (declaration == null || local.getKind() != ElementKind.LOCAL_VARIABLE || made(local) == null) {
             return 0;
         }
-        long first = Escape.NEVER;
-        for (Tree use : uses.of(local)) {
-            first = Math.min(first, escape.earliest(use, declaration));
-        }
-        return first;
+        return uses.of(local).stream().mapToLong(use -> escape.earliest(use, declaration)).min().orElse(Escape.NEVER);
     }
 }
