@@ -8,6 +8,7 @@ use Rattle.std.proofs.lemmas.Bool.{eqb-true, eq-eqb, leb-true, leb-false, or_par
 use Rattle.std.proofs.lemmas.Option.{none-some, same_Some}
 use Rattle.std.proofs.lemmas.Map.Steps.{length-le_from_distinct_below}
 use Rattle.base.specs.Ancestors.{AreBelow, IsAncestor, IsCircular, is_circular, reaches, steps_up}
+use Rattle.base.proofs.Options.{some_there}
 
 module _ (above : ℕ → Option ℕ) where
   -- ---- steps
@@ -144,13 +145,9 @@ module _ (above : ℕ → Option ℕ) where
     always zero (suc n) c d is round = refl
     always (suc m) (suc n) c d is round = let f = first_of n c d is in ap is_some (up_first m c f.0 f.1) ∙ always m n f.0 d f.2 round
 
-    there : (o : Option ℕ) → is_some o ≡ true → (e : ℕ) × (o ≡ Some e)
-    there None h = absurd (let k : false ≡ true = h in cc)
-    there (Some e) h = (e, refl)
-
     pub circle_exact : (c : ℕ) → c < count → (is_circular above count c ≡ true) ↔ IsCircular above c
     circle_exact c low = (
-      λ some. let e = there (steps_up above count c) some in met_twice count c (repeats c e.0 low e.1),
+      λ some. let e = some_there (steps_up above count c) some in met_twice count c (repeats c e.0 low e.1),
       λ (n, d, is, round). always count n c d is round,
     )
 

@@ -51,15 +51,15 @@ fn named_among(names: &[u32], first: MethodId, count: usize, name: u32) -> Optio
 }
 
 impl CoreProgram {
-    /// The class with a number.
-    fn class_at(&self, id: ClassId) -> Option<&CoreClass>
+    /// The class with a number; `None` where there are no more than so many.
+    pub fn class_at(&self, id: ClassId) -> Option<&CoreClass>
         ensures { option_map (λ c. kept_class c.now) result ≡ slice_get (kept_classes self.now) id }
     {
         self.classes.get(id.0 as usize)
     }
 
-    /// The class's own method with this name.
-    fn own_named(&self, name: u32, class: &CoreClass) -> Option<MethodId>
+    /// The class's own method with the name of this number; `None` where it has none.
+    pub fn own_named(&self, name: u32, class: &CoreClass) -> Option<MethodId>
         ensures { result ≡ own_named self.now.names.items name (kept_class class.now) }
     {
         named_among(
@@ -123,8 +123,8 @@ impl CoreProgram {
         }
     }
 
-    /// The number of a method's name.
-    fn name_of(&self, method: MethodId) -> Option<u32>
+    /// The number of a method's name; `None` where the method isn't there.
+    pub fn name_of(&self, method: MethodId) -> Option<u32>
         ensures { result ≡ slice_get self.now.names.items method }
     {
         Some(*self.names.get(method.0 as usize)?)

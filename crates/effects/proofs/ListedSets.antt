@@ -7,6 +7,7 @@ use Rattle.std.proofs.lemmas.Bool.{eqb-true, eq-eqb, false_from_ne_true}
 use Rattle.std.proofs.lemmas.Option.{none-some, same_Some}
 use Rattle.std.proofs.lemmas.List.{drop_all}
 use Rattle.std.proofs.lemmas.List.Folds.{list_any-append}
+use Rattle.std.proofs.Math.Bool.{and-false}
 use Rattle.std.proofs.Math.Seq.{drop-append_seam}
 use Rattle.paths.specs.Paths.{PathData, path_eq, extended, most_fields}
 use Rattle.paths.specs.Renamings.{under_call}
@@ -23,11 +24,7 @@ all_found F xs so_far all k none past is = sym (append-nil so_far) ∙ ap (λ z.
 
 one_part : (T : Held) (p q : PathData) (same passes : Bool) (later : Bool) → path_eq p q ≡ same → T p ≡ passes → cond passes (same || (later && T q)) (later && T q) ≡ ((same || later) && T q)
 one_part T p q true true later is test = let e : true ≡ T q = sym test ∙ ap T (eq_is p q is) in e
-one_part T p q true false later is test = let e : T q ≡ false = sym (ap T (eq_is p q is)) ∙ test in ap (λ b. later && b) e ∙ none later ∙ sym e
-  where
-    none : (b : Bool) → (b && false) ≡ false
-    none true = refl
-    none false = refl
+one_part T p q true false later is test = let e : T q ≡ false = sym (ap T (eq_is p q is)) ∙ test in ap (λ b. later && b) e ∙ and-false later ∙ sym e
 one_part T p q false true later is test = refl
 one_part T p q false false later is test = refl
 

@@ -17,7 +17,7 @@ use Rattle.core_program.specs.Views.{expr_of, exprs_from, stmts_from}
 use Rattle.rules.specs.Mentions.{paths_of}
 use Rattle.base.proofs.Lists.{next_drop}
 use Rattle.std.proofs.lemmas.List.{drop_all}
-use Rattle.std.proofs.Math.Bool.{or-false}
+use Rattle.std.proofs.Math.Bool.{or-false, or-true}
 use Rattle.explain.specs.Helping.{first_path, names_here, path_before}
 use Rattle.explain.specs.declared.names.Alias.{Alias}
 use Rattle.explain.specs.Names.{aliases_after, aliases_after_each, argument, passed_expr}
@@ -41,11 +41,7 @@ twice true b = refl
 twice false b = refl
 
 crossed : (a b c d : Bool) → d ≡ (b || c) → (a || d) ≡ (b || (a || c))
-crossed a true c d is = ap (λ z. a || z) is ∙ or_true a
-  where
-    or_true : (a : Bool) → (a || true) ≡ true
-    or_true true = refl
-    or_true false = refl
+crossed a true c d is = ap (λ z. a || z) is ∙ or-true a
 crossed a false c d is = ap (λ z. a || z) is
 
 one_put : (o : Ordering) (p x q : PathData) (xs more : List PathData) → (o ≡ Equal → p ≡ x) → has_path more q ≡ (path_eq p q || has_path xs q)

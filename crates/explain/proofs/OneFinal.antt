@@ -1,6 +1,6 @@
 -- To set the finality of a field is to make it final, and to set it back leaves the fields as they were. To mark a number marks that alone.
 use Rattle.std.proofs.Common.{◌≡◌, ◌≢◌, ℕ, zero, suc, ◌+◌, ◌<◌, ◌≤◌, ◌==◌, ◌||◌, Bool, true, false, List, [], ◌∷◌, ◌++◌, length, map, drop, get_or, Some, refl, ap, sym, ◌∙◌, arith, slice_get, slice_set}
-use Rattle.std.proofs.Math.Bool.{or_assoc}
+use Rattle.std.proofs.Math.Bool.{or_assoc, or-false, or-true}
 use Rattle.std.proofs.Math.ListN.{drop_of_length-le}
 use Rattle.std.proofs.lemmas.Bool.{eq-eqb, eqb-false, eqb-true, ne_eqb}
 use Rattle.std.proofs.lemmas.Option.{none-some, same_Some}
@@ -20,14 +20,6 @@ marked_more [] (suc f) = refl
 marked_more (b ∷ marks) zero = refl
 marked_more (b ∷ marks) (suc f) = marked_more marks f
 
-or_true : (b : Bool) → true ≡ (b || true)
-or_true true = refl
-or_true false = refl
-
-or_false : (b : Bool) → b ≡ (b || false)
-or_false true = refl
-or_false false = refl
-
 marked_here : (marks : List Bool) (n : ℕ) → n < length marks → has_mark (slice_set marks n true) n ≡ true
 marked_here [] n below = absurd (omega (arith, below))
 marked_here (b ∷ marks) zero below = refl
@@ -46,8 +38,8 @@ marked_at marks n f below =
     by (n == f) refl
   where
     by : (b : Bool) → (n == f) ≡ b → has_mark (slice_set marks n true) f ≡ (has_mark marks f || b)
-    by true e = ap (has_mark (slice_set marks n true)) (sym (eqb-true n f e)) ∙ marked_here marks n below ∙ or_true (has_mark marks f)
-    by false e = marked_there marks n f (eqb-false n f e) ∙ or_false (has_mark marks f)
+    by true e = ap (has_mark (slice_set marks n true)) (sym (eqb-true n f e)) ∙ marked_here marks n below ∙ sym (or-true (has_mark marks f))
+    by false e = marked_there marks n f (eqb-false n f e) ∙ sym (or-false (has_mark marks f))
 
 module _ {X : Type 0} (any : List X → Bool) where
   -- the marks so far, with those of one more and of all that are left, are still the same
@@ -59,7 +51,7 @@ module _ {X : Type 0} (any : List X → Bool) where
 
   -- where none is left, they are those of all
   pub marked_all : any [] ≡ false → (xs : List X) (i : ℕ) {old all : Bool} → length xs ≤ i → (old || any (drop i xs)) ≡ all → old ≡ all
-  marked_all none xs i {old} past so_far = or_false old ∙ ap (λ b. old || b) (sym (ap any (drop_of_length-le xs past) ∙ none)) ∙ so_far
+  marked_all none xs i {old} past so_far = sym (or-false old) ∙ ap (λ b. old || b) (sym (ap any (drop_of_length-le xs past) ∙ none)) ∙ so_far
 
 -- ---- fields
 

@@ -1,8 +1,9 @@
 -- Several files, from what was found of each.
-use Rattle.std.proofs.Common.{◌≡◌, ◌≤◌, ◌<◌, ◌+◌, ℕ, true, false, List, [], ◌∷◌, ◌++◌, Option, Some, None, IfSome, IsSome, append-nil, append_assoc, drop, get_or, length, map, String, string_bytes, refl, sym, ap, subst, ◌∙◌, arith, inl, inr, ◌⊎◌}
+use Rattle.std.proofs.Common.{◌≡◌, ◌≤◌, ◌<◌, ◌+◌, ℕ, List, [], ◌∷◌, ◌++◌, Option, Some, IfSome, IsSome, append-nil, append_assoc, drop, get_or, length, map, String, string_bytes, refl, sym, ap, subst, ◌∙◌, arith, inl, inr, ◌⊎◌}
 use Rattle.std.proofs.Math.ListN.{drop_of_length-le}
 use Rattle.std.specs.Global.{Global}
 use Rattle.base.proofs.Lists.{next_drop}
+use Rattle.base.proofs.Options.{some_there}
 use Rattle.edge.specs.Faults.{Rose}
 use Rattle.lexer.specs.Limits.{longest_source}
 use Rattle.sources.specs.Files.{HasSameFaults}
@@ -132,10 +133,6 @@ module _ (order : Order) (told : List ℕ → Option (List ℕ)) where
   calm_within (name ∷ names) before mid between now up down calm =
       (λ rose. calm.0 (let low = up name in let high = down name in omega (arith, low, high, rose)), calm_within names before mid between now up down calm.1)
 
-  its_told : (o : Option (List ℕ)) → IsSome o → (file : List ℕ) × (o ≡ Some file)
-  its_told (Some file) some = (file, refl)
-  its_told None some = absurd (let e : false ≡ true = some in cc)
-
   one_told : (name file : List ℕ) (before now : List ℕ → ℕ) (status : ℕ) (text : List ℕ) → told name ≡ Some file → (Rose (before name) (now name) → ⊥) → IsExplainOutcome order name told before now status text
       → BelongsToFile order name file status text
   one_told name file before now _ _ is calm (unread gone) = absurd (calm gone.rose)
@@ -148,7 +145,7 @@ module _ (order : Order) (told : List ℕ → Option (List ℕ)) where
       → AreAnswers order told names status text
   all_told _ before _ _ _ some calm no_file = no_answer
   all_told _ before now _ _ some calm (one_file {name = name} {names = names} {between = between} {status = status} {worst = worst} {text = text} {rest = rest} outcome rises others) =
-      let file = its_told (told name) some.0 in
+      let file = some_there (told name) some.0 in
       let later = rises_all names between now worst rest others in
       let first = calm_within (name ∷ []) before before between now (λ other. omega arith) later (calm.0, tt) in
       let behind_it = calm_within names before between now now rises (λ other. omega arith) calm.1 in

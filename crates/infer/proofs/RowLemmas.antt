@@ -1,7 +1,8 @@
 -- Rows of basics, one place more at a time.
-use Rattle.std.proofs.Common.{◌≡◌, ℕ, zero, suc, ◌+◌, ◌-◌, ◌<◌, ◌≤◌, Bool, true, false, ◌&&◌, ◌||◌, List, [], ◌∷◌, ◌++◌, length, length-append, take, drop, get_or, slice_get, None, refl, sym, ap, subst, ◌∙◌, arith, append_assoc}
+use Rattle.std.proofs.Common.{◌≡◌, ℕ, zero, suc, ◌+◌, ◌-◌, ◌<◌, ◌≤◌, true, false, ◌&&◌, ◌||◌, List, [], ◌∷◌, ◌++◌, length, length-append, take, drop, get_or, slice_get, None, refl, sym, ap, subst, ◌∙◌, arith, append_assoc}
 use Rattle.std.specs.Prelude.{Result, Ok, Err, OnOk}
 use Rattle.std.proofs.lemmas.List.Folds.{list_any-append}
+use Rattle.std.proofs.Math.Bool.{or-false}
 use Rattle.std.proofs.Math.Seq.{take-append_seam, drop-append_seam}
 use Rattle.std.proofs.Math.Numerals.{add-one}
 use Rattle.paths.specs.Paths.{PathData, path_eq}
@@ -66,12 +67,8 @@ parts_more f old one two held held1 held2 paths rest p paths_are held2_is held1_
 held_again : (held : List PathData) (p q : PathData) → has_path held p ≡ true → has_path (held ++ p ∷ []) q ≡ has_path held q
 held_again held p q has = list_any-append (λ r. path_eq r q) held (p ∷ []) ∙ elim (path_eq p q) as (λ b. path_eq p q ≡ b → (has_path held q || (b || false)) ≡ has_path held q) [
   | true ↦ λ e. let here : has_path held q ≡ true = ap (has_path held) (sym (eq_is p q e)) ∙ has in ap (λ b. b || true) here ∙ sym here
-  | false ↦ λ e. or_none (has_path held q)
+  | false ↦ λ e. or-false (has_path held q)
 ] refl
-  where
-    or_none : (b : Bool) → (b || false) ≡ b
-    or_none true = refl
-    or_none false = refl
 
 -- equal sets have equal basics at all parts
 parts_same : (f : Held → Basic) (one two paths : List PathData) → ((q : PathData) → has_path one q ≡ has_path two q) → at_parts (λ qs. f (has_path qs)) one paths ≡ at_parts (λ qs. f (has_path qs)) two paths

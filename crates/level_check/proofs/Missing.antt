@@ -1,5 +1,6 @@
 -- Lists of paths that get what they haven't got, and what several methods know.
 use Rattle.std.proofs.Common.{◌≡◌, ◌<◌, ◌≤◌, ◌+◌, inl, inr, ℕ, ◌||◌, Bool, true, false, List, [], ◌∷◌, ◌++◌, length, drop, get_or, refl, sym, ap, subst, ◌∙◌, arith}
+use Rattle.std.proofs.Math.Bool.{or_assoc, or-false}
 use Rattle.std.specs.Prelude.{Contains}
 use Rattle.std.specs.List.{list_any}
 use Rattle.std.proofs.lemmas.Bool.{or_left, or_right, or_cases}
@@ -11,18 +12,10 @@ use Rattle.paths.proofs.PathOrder.{eq_is}
 use Rattle.algebra.specs.HeldPaths.{Held, has_path}
 use Rattle.level_check.specs.Told.{known_to}
 
-or_assoc : (a b c : Bool) → ((a || b) || c) ≡ (a || (b || c))
-or_assoc true b c = refl
-or_assoc false b c = refl
-
 or_end : (a b : Bool) → (a || (b || false)) ≡ (a || b)
 or_end true b = refl
 or_end false true = refl
 or_end false false = refl
-
-or_none : (a : Bool) → (a || false) ≡ a
-or_none true = refl
-or_none false = refl
 
 -- A list, one element after the other: whether one of those so far, or of those that are left, passes a test.
 
@@ -31,7 +24,7 @@ any_step f xs i x old new whole below is more so_far =
     ap (λ b. b || list_any f (drop (i + 1) xs)) more ∙ or_assoc old (f x) (list_any f (drop (i + 1) xs)) ∙ ap (λ l. old || list_any f l) (sym (next_drop xs i x below is)) ∙ so_far
 
 pub any_done : {A : Type 0} (f : A → Bool) (xs : List A) (i : ℕ) (old whole : Bool) → length xs ≤ i → (old || list_any f (drop i xs)) ≡ whole → old ≡ whole
-any_done f xs i old whole past so_far = sym (or_none old) ∙ ap (λ l. old || list_any f l) (sym (drop_all i xs past)) ∙ so_far
+any_done f xs i old whole past so_far = sym (or-false old) ∙ ap (λ l. old || list_any f l) (sym (drop_all i xs past)) ∙ so_far
 
 -- A path that is there, and one that is added.
 
@@ -42,7 +35,7 @@ path_had known x p had = by_same (path_eq x p) refl
     by_same true same =
         let there = subst (λ z. has_path known z ≡ true) (eq_is x p same) had in
         there ∙ sym (or_left (has_path known p) (path_eq x p) there)
-    by_same false other = sym (or_none (has_path known p)) ∙ ap (λ b. has_path known p || b) (sym other)
+    by_same false other = sym (or-false (has_path known p)) ∙ ap (λ b. has_path known p || b) (sym other)
 
 pub path_pushed : (known new : List PathData) (x p : PathData) → new ≡ known ++ x ∷ [] → has_path new p ≡ (has_path known p || path_eq x p)
 path_pushed known new x p pushed = ap (λ l. has_path l p) pushed ∙ list_any-append (λ q. path_eq q p) known (x ∷ []) ∙ or_end (has_path known p) (path_eq x p)

@@ -3,7 +3,7 @@ use Rattle.std.proofs.Common.{◌≡◌, inl, inr, ℕ, zero, suc, ◌==◌, Boo
 use Rattle.std.specs.Prelude.{IsSome, option_and_then, option_map, slice_get}
 use Rattle.std.proofs.lemmas.Bool.{eqb-true, or_cases}
 use Rattle.std.proofs.lemmas.Option.{same_Some, slice_get-map}
-use Rattle.base.proofs.Options.{then_parts, if_taken}
+use Rattle.base.proofs.Options.{if_taken, some_there, then_parts}
 use Rattle.core_program.specs.declared.program.CoreMethod.{CoreMethod}
 use Rattle.core_program.specs.declared.program.CoreProgram.{CoreProgram}
 use Rattle.core_program.specs.Core.{Method}
@@ -16,10 +16,6 @@ use Rattle.core_program.proofs.Climbing.{own_at, own_nowhere}
 use Rattle.core_program.proofs.OverridesLemmas.{IsOver, is_over, overrides_one, target_is}
 use Rattle.rules.specs.Nearest.{LeadTo, near, further, AreNearest}
 use Rattle.levels.specs.Contexts.{MayRun}
-
-some_is : {A : Type 0} (o : Option A) → IsSome o → (x : A) × (o ≡ Some x)
-some_is None is = absurd (let e : false ≡ true = is in cc)
-some_is (Some x) is = (x, refl)
 
 is_some : {A : Type 0} (o : Option A) (x : A) → o ≡ Some x → IsSome o
 is_some o x e = subst (λ z. IsSome z) (sym e) refl
@@ -102,7 +98,7 @@ module _ (p : CoreProgram) (typed : IsTyped (program_of p)) where
 
       either : has_or_inherits parts names i.class m ≡ true
       either =
-          let target = some_is (target_of (program_of p) at m) has in
+          let target = some_there (target_of (program_of p) at m) has in
           let own = then_parts (λ c. target_in parts names c m) (slice_get parts at) target.0 (sym (target_is p at m) ∙ target.1) in
           let name = then_parts (λ n. if has_or_inherits parts names own.0 m then Some (runs_for parts names own.0 m n) else None) (slice_get names m) target.0 own.2 in
           subst (λ c. has_or_inherits parts names c m ≡ true) (same_Some own.0 i.class (sym own.1 ∙ there)) (if_taken (has_or_inherits parts names own.0 m) (Some (runs_for parts names own.0 m name.0)) target.0 name.2).0

@@ -11,7 +11,7 @@ ghost use Rattle.level_check.specs.Origins.{AreOrigins, AddsOrigins};
 use core_program::CoreProgram;
 use effects::has_all;
 use paths::MethodId;
-use rules::{NearestMethods, RelevantSets};
+use rules::{NearestMethods, RelevantSets, method_at};
 use std::alloc::{AllocError as NoMemory, Global};
 
 /// The origins of paths.
@@ -30,16 +30,6 @@ pub(crate) fn origins(
         add_origins(sets, over, method_at(place)?, &mut origins)?;
     }
     Ok(origins)
-}
-
-/// The method at a place. There is no memory for more methods than numbers.
-fn method_at(place: usize) -> Result<MethodId, NoMemory>
-    ensures { IfOk result (λ method. method ≡ place) }
-{
-    match u32::try_from(place) {
-        Ok(number) => Ok(MethodId(number)),
-        Err(_) => Err(NoMemory),
-    }
 }
 
 /// Adds those that override a method next and know a path that it doesn't know.

@@ -4,7 +4,7 @@ ghost use Rattle.core_program.specs.Dispatch.{target_of};
 ghost use Rattle.core_program.specs.Views.{program_of};
 ghost use Rattle.machine.specs.Upwards.{look_tells};
 
-use crate::upwards::{Look, name_of, pass, runs_below};
+use crate::upwards::{Look, pass, runs_below};
 use crate::weights::{CHEAP, copied, dear_weights, is_boundary};
 use core_program::CoreProgram;
 use indexmap::IndexMap;
@@ -88,7 +88,7 @@ impl<'p> Targets<'p> {
     pub(crate) fn keep(&mut self, class: ClassId, method: MethodId)
         ensures { self.new ≡ self.old }
     {
-        if let Some(name) = name_of(self.program, method) {
+        if let Some(name) = self.program.name_of(method) {
             let parts = self.weights.len().saturating_add(self.program.names.len());
             let _ = self.known(class, method, name, parts / CHEAP + 2);
         }

@@ -4,6 +4,7 @@ use Rattle.std.specs.Prelude.{Option, is_some, slice_get, option_and_then, cond,
 use Rattle.std.specs.FinMap as M
 use Rattle.std.proofs.lemmas.Bool.{eqb-true}
 use Rattle.std.proofs.lemmas.Option.{same_Some}
+use Rattle.base.proofs.Options.{some_there}
 use Rattle.paths.specs.Paths.{PathData}
 use Rattle.core_program.specs.Core.{Program, Field, Class}
 use Rattle.state.specs.declared.value.Address.{Address}
@@ -103,18 +104,14 @@ module _ (P : Program) (heap : Heap) (a : Address) where
       let fields : Some y ≡ Some x = sym two.2 ∙ sym (ap (λ (k : Class). slice_get k.fields i) same) ∙ one.2 in
       cc
 
-  is_of : (o : Option Value) → IsSome o → (v : Value) × (o ≡ Some v)
-  is_of None e = absurd cc
-  is_of (Some v) e = (v, refl)
-
   pub one_field : (x y : ℕ) → IsSome (value_in P heap a x) → IsSome (value_in P heap a y) → index_of (slice_get P.fields y) ≡ index_of (slice_get P.fields x) → y ≡ x
   one_field x y hx hy e = by (M.get heap a) refl
     where
       by : (o : Option Object) → M.get heap a ≡ o → y ≡ x
       by None at = absurd (let c : false ≡ true = sym (ap (λ k. is_some (field_value P x k (slice_get P.fields x))) at) ∙ hx in cc)
       by (Some o) at =
-          let vx = is_of (value_in P heap a x) hx in
-          let vy = is_of (value_in P heap a y) hy in
+          let vx = some_there (value_in P heap a x) hx in
+          let vy = some_there (value_in P heap a y) hy in
           two_listed (slice_get P.classes o.class) (index_of (slice_get P.fields x)) x y
           (listed x o (slice_get P.fields x) vx.0 (sym (ap (λ k. field_value P x k (slice_get P.fields x)) at) ∙ vx.1))
           (subst (λ i. lists (slice_get P.classes o.class) i y ≡ true) e (listed y o (slice_get P.fields y) vy.0 (sym (ap (λ k. field_value P y k (slice_get P.fields y)) at) ∙ vy.1)))

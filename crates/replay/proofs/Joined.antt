@@ -1,10 +1,11 @@
 -- The thread alone beside the whole state, and plain states beside those with frames.
-use Rattle.std.proofs.Common.{◌≡◌, ℕ, zero, suc, ◌+◌, ◌<◌, ◌≤◌, Bool, true, false, ◌||◌, List, [], ◌∷◌, ◌++◌, Some, refl, sym, ap, subst, ◌∙◌, arith}
+use Rattle.std.proofs.Common.{◌≡◌, ℕ, zero, suc, ◌+◌, ◌<◌, ◌≤◌, true, false, ◌||◌, List, [], ◌∷◌, ◌++◌, Some, refl, sym, ap, subst, ◌∙◌, arith}
 use Rattle.std.specs.Prelude.{Option, length, replicate, slice_get, slice_set}
 use Rattle.std.specs.List.{list_any}
 use Rattle.std.proofs.lemmas.List.{map-append, set-append_left, set-set}
 use Rattle.std.proofs.lemmas.Option.{none-some, same_Some, slice_get_within}
 use Rattle.std.proofs.lemmas.Bool.{or_left}
+use Rattle.std.proofs.Math.Bool.{or-true}
 use Rattle.core_program.specs.Core.{Program}
 use Rattle.state.proofs.MemoryLemmas.{set_same}
 use Rattle.state.specs.States.{Frame, Thread, Ready, State}
@@ -112,11 +113,7 @@ module _ (P : Program) (t : ℕ) where
     -- a frame of the method makes the thread stand inside
     own_inside : (c : ℕ) (fs : List Frame) → Own m base c fs → list_any (λ f. is_annotated (slice_get P.methods f.method)) fs ≡ true
     own_inside _ _ (bottom f same) = or_left _ _ (ap (λ x. is_annotated (slice_get P.methods x)) same ∙ annotated)
-    own_inside _ _ (upon f c fs own) = ap (λ b. is_annotated (slice_get P.methods f.method) || b) (own_inside c fs own) ∙ or_true (is_annotated (slice_get P.methods f.method))
-      where
-        or_true : (b : Bool) → (b || true) ≡ true
-        or_true true = refl
-        or_true false = refl
+    own_inside _ _ (upon f c fs own) = ap (λ b. is_annotated (slice_get P.methods f.method) || b) (own_inside c fs own) ∙ or-true (is_annotated (slice_get P.methods f.method))
 
     own_length : (c : ℕ) (fs : List Frame) → Own m base c fs → length fs ≡ c + length base
     own_length _ _ (bottom f same) = one_more (length base)

@@ -31,7 +31,7 @@ pub use laws::{
 };
 pub use lookups::{bound_of, required_of};
 pub use nearest::{NearestMethods, nearest_overriders};
-pub use overriding::{OverridingMethods, overriders};
+pub use overriding::{OverridingMethods, method_at, overriders};
 pub use relevance::{RuleEnd, relevant};
 pub use renaming::renaming_at;
 pub use rows_of_overriding::Overriding;

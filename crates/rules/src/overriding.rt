@@ -36,7 +36,7 @@ impl OverridingMethods {
 }
 
 /// The method at a place. There is no memory for more methods than numbers.
-pub(crate) fn method_at(place: usize) -> Result<MethodId, NoMemory>
+pub fn method_at(place: usize) -> Result<MethodId, NoMemory>
     ensures { IfOk result (λ method. method ≡ place) }
 {
     match u32::try_from(place) {

@@ -6,6 +6,7 @@ use Rattle.std.proofs.lemmas.List.Folds.{list_any-append}
 use Rattle.std.proofs.lemmas.Option.{slice_get-get_or, same_Some}
 use Rattle.std.proofs.lemmas.Slice.Eq.{bytes_eq-Decides}
 use Rattle.std.proofs.lemmas.Bool.{or_parts, and_parts}
+use Rattle.std.proofs.Math.Bool.{or-true}
 use Rattle.base.proofs.Options.{map_parts}
 use Rattle.paths.specs.Paths.{PathData}
 use Rattle.core_program.specs.declared.types.CoreType.{CoreType}
@@ -184,11 +185,7 @@ one_place seen (n ∷ ns) h (suc i) (suc j) a b at other same =
 pub any_of : {A : Type 0} (p : A → Bool) (xs : List A) (i : ℕ) (x : A) → slice_get xs i ≡ Some x → p x ≡ true → list_any p xs ≡ true
 any_of p [] i x at h = absurd (nothing_at i x at)
 any_of p (y ∷ ys) zero x at h = ap (λ b. b || list_any p ys) (ap p (same_Some y x at) ∙ h)
-any_of p (y ∷ ys) (suc i) x at h = ap (λ b. p y || b) (any_of p ys i x at h) ∙ or_right (p y)
-  where
-    or_right : (b : Bool) → (b || true) ≡ true
-    or_right true = refl
-    or_right false = refl
+any_of p (y ∷ ys) (suc i) x at h = ap (λ b. p y || b) (any_of p ys i x at h) ∙ or-true (p y)
 
 -- the place of a name that stands once
 pub place_of_name : (ns : List Name) → repeats ns ≡ [] → (j : ℕ) (a : Name) → slice_get ns j ≡ Some a → position (bytes_eq a.text) (texts_of ns) ≡ Some j

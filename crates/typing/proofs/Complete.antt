@@ -2,6 +2,7 @@
 use Rattle.std.proofs.Common.{◌≡◌, ℕ, ◌+◌, Bool, true, false, List, [], ◌∷◌, ◌++◌, Option, Some, None, IsSome, flat_map, map, length, Result, Ok, Err, refl, sym, ◌∙◌, ◌&&◌, nat_lt, option_map, if◌then◌else◌}
 use Rattle.std.proofs.lemmas.Bool.{false≢true}
 use Rattle.std.proofs.lemmas.Option.{same_Some}
+use Rattle.base.proofs.Options.{some_there}
 use Rattle.syntax.specs.declared.tree.Name.{Name}
 use Rattle.syntax.specs.Trees.{ExprTree, ExprTrees, NumberE, LeastE, TruthE, NullE, ThisE, VarE, ParenE, NotE, NegE, BinaryE, GetE, CallE, NewE, no_exprs, more_exprs}
 use Rattle.syntax.specs.Trees.{StmtTree, StmtTrees, EmptyS, BlockS, LocalS, SetVarS, SetFieldS, DoS, IfS, IfElseS, WhileS, SyncS, ReturnS, PrintS, StartS, no_stmts, more_stmts}
@@ -294,15 +295,11 @@ module _ (t : TableData) where
 
 -- ---- programs
 
-pub there : {A : Type 0} (o : Option A) → IsSome o → (a : A) × (o ≡ Some a)
-there (Some a) h = (a, refl)
-there None h = absurd (false≢true h)
-
 -- a program without faults has a core program
 pub program_there : (tree : ProgramTree) → program_type_faults tree ≡ [] → (P : Program) × (core_of tree ≡ Some P)
 program_there tree h =
     let t = table_of tree in
-    there (core_of tree)
+    some_there (core_of tree)
     (mapped_some (program_node t) (both (all_there (all_core_fields t 0 tree)) (all_there (all_core_methods t 0 tree)))
     (both_some (all_there (all_core_fields t 0 tree)) (all_there (all_core_methods t 0 tree))
     (all_there_some (all_core_fields t 0 tree) (all_fields_there t 0 tree h))

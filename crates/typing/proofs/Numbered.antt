@@ -1,5 +1,6 @@
 -- The classes that a core program tells, by numbers for the names of methods, are those of the class table.
 use Rattle.std.proofs.Common.{◌≡◌, ◌+◌, ◌-◌, ◌==◌, ◌||◌, ◌&&◌, inl, inr, ℕ, zero, suc, Bool, true, false, List, [], ◌∷◌, ◌++◌, length, map, take, drop, cond, nat_le, nat_lt, Option, Some, None, refl, sym, ap, ap₂, ◌∙◌, arith, slice_get, position, bytes_eq, get_or, option_map, option_and_then, unwrap_or, length-append, if◌then◌else◌}
+use Rattle.std.proofs.Math.Bool.{or-false}
 use Rattle.std.specs.Cmp.{both_ways}
 use Rattle.std.specs.List.{position_from}
 use Rattle.std.specs.Option.{option_or}
@@ -34,10 +35,6 @@ in_step x text from [] (z ∷ ys) long each = absurd (omega (arith, long))
 in_step x text from (y ∷ xs) [] long each = absurd (omega (arith, long))
 in_step x text from (y ∷ xs) (z ∷ ys) long each =
     ap₂ (λ b o. cond b (Some from) o) (each 0 y z refl refl) (in_step x text (from + 1) xs ys (omega (arith, long)) (λ j u v. each (suc j) u v))
-
-or_false : (b : Bool) → (b || false) ≡ b
-or_false true = refl
-or_false false = refl
 
 module _ (t : TableData) (lined : IsLined t) (numbers : List ℕ) (are : AreNumbered t.methods numbers) where
   abbrev parts : List KeptClass
@@ -177,7 +174,7 @@ module _ (t : TableData) (lined : IsLined t) (numbers : List ℕ) (are : AreNumb
 
     up_as : (j : ℕ) (from : Option ℕ) → is_own_up parts numbers (suc j) from n ≡ reaches up_in j from m.class
     up_as zero None = refl
-    up_as zero (Some k) = or_false (is_own_in parts numbers (slice_get parts k) n) ∙ own_in_as k
+    up_as zero (Some k) = or-false (is_own_in parts numbers (slice_get parts k) n) ∙ own_in_as k
     up_as (suc j) None = refl
     up_as (suc j) (Some k) = ap₂ ◌||◌ (own_in_as k) (ap (λ o. is_own_up parts numbers (suc j) o n) (above_as k) ∙ up_as j (above_in_table t k))
 

@@ -9,7 +9,7 @@ use Rattle.std.proofs.lemmas.List.{length-map}
 use Rattle.std.proofs.lemmas.List.Quantifiers.{position-Some}
 use Rattle.std.proofs.lemmas.Slice.Eq.{bytes_eq-Decides}
 use Rattle.base.proofs.Lists.{at_either, get_below, get_right, at_left}
-use Rattle.base.proofs.Options.{then_parts}
+use Rattle.base.proofs.Options.{some_there, then_parts}
 use Rattle.core_program.specs.Core.{Program, Method}
 use Rattle.core_program.specs.Dispatch.{partner, targets_in, target_of, inherited_target, IsOwn}
 use Rattle.core_program.specs.Typed.{IsTarget, own, overridden, inherited, AreTargets}
@@ -187,13 +187,9 @@ module _ (t : TableData) (lined : IsLined t) where
       inherited_kept (Some e) n is some =
           let above : above_in_table t k ≡ Some e = above_is ∙ is in
           let below : e < length t.classes = lined.below k e above in
-          let j = there (target_of P e n) some in
+          let j = some_there (target_of P e n) some in
           let p = pair_is e n j.0 below j.1 in
           ap is_some (stands t k 0 t.methods n n p.method (omega arith) p.is (kind_up up_in (length t.classes) lined.below lined.apart k e p.method.class low above p.kind))
-        where
-          there : (o : Option ℕ) → IsSome o → (x : ℕ) × (o ≡ Some x)
-          there None h = absurd (none_there h)
-          there (Some x) h = (x, refl)
 
       pub are_targets : AreTargets P k (class_core t k c)
       are_targets = record {

@@ -4,6 +4,7 @@ use Rattle.std.specs.Prelude.{ok_or}
 use Rattle.std.proofs.lemmas.Bool.Decides.{nat_tests}
 use Rattle.std.proofs.lemmas.Option.{slice_get_within, same_Some}
 use Rattle.std.proofs.lemmas.Bool.{not-true}
+use Rattle.std.proofs.Math.Bool.{or-true}
 use Rattle.base.proofs.Options.{if_taken, map_parts}
 use Rattle.syntax.specs.declared.tree.Name.{Name}
 use Rattle.syntax.specs.declared.tree.TypeName.{TypeName}
@@ -39,10 +40,6 @@ use Rattle.typing.proofs.StmtSizes.{stmt_size, stmt_sizes, max_if, at_least_one}
 use Rattle.typing.proofs.SeenScopes.{seen_more}
 
 -- ---- small facts
-
-or_true : (b : Bool) → (b || true) ≡ true
-or_true true = refl
-or_true false = refl
 
 below_limit : (n : ℕ) → nat_lt n most_locals ≡ true → n + 1 ≤ most_locals
 below_limit n h = grind (arith, nat_tests)
@@ -307,7 +304,7 @@ module _ (t : TableData) (P : Program) (agrees : Agrees t P) (class : ℕ) (retu
         subst (IsFine scope vars before (tree.IfS c s at)) g.2 (record {
           is_typed = (a.boolean, k.is_typed, tt);
           declares = omega (arith, k.declares);
-          ends = or_true (typing.can_complete g.0.1);
+          ends = or-true (typing.can_complete g.0.1);
           height = omega (arith, max_if (height_of g.0.0) (sizes.stmt_height g.0.1) (tree_height.height c) (tree_height.stmt_height s) a.shape.height k.height (at_least_one s));
           nodes = omega (arith, a.shape.nodes, k.nodes);
           low = k.low;
