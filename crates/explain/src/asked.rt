@@ -52,19 +52,18 @@ fn unmark(is_due: &mut Vec<bool>, place: usize) {
     }
 }
 
-/// No methods, for each of so many.
-fn none_for_each(alloc: Global, count: usize) -> Result<Vec<Vec<usize>>, NoMemory> {
-    let mut rows = Vec::new(alloc);
-    for _ in 0..count {
-        rows.push(Vec::new(alloc))?;
-    }
-    Ok(rows)
+/// A method that waits, and the place of the next one that waits for the same method.
+#[derive(Clone, Copy)]
+struct Waiter {
+    place: usize,
+    next: Option<usize>,
 }
 
-/// The methods that wait for each method, by their places, and those that are to be asked.
+/// The methods that wait for each method, from the one that was added last on, and those that are to be asked.
 #[derive(Drop)]
 struct Queue {
-    waiting: Vec<Vec<usize>>,
+    lasts: Vec<Option<usize>>,
+    waiters: Vec<Waiter>,
     due: Due,
 }
 
@@ -72,7 +71,8 @@ impl Queue {
     /// None of so many methods waits, and none is to be asked.
     fn new(alloc: Global, count: usize) -> Result<Queue, NoMemory> {
         Ok(Queue {
-            waiting: none_for_each(alloc, count)?,
+            lasts: vec![in alloc; None; count]?,
+            waiters: Vec::new(alloc),
             due: Due::new(alloc, count)?,
         })
     }
@@ -80,19 +80,23 @@ impl Queue {
     /// Adds a method that waits for another.
     fn add(&mut self, place: usize, awaited: MethodId) -> Result<(), NoMemory> {
         let row = awaited.0 as usize;
-        if row < self.waiting.len() {
-            self.waiting[row].push(place)?;
+        if row >= self.lasts.len() {
+            return Ok(());
         }
+        let next = replace(&mut self.lasts[row], Some(self.waiters.len()));
+        self.waiters.push(Waiter { place, next })?;
         Ok(())
     }
 
     /// The methods that wait for this one are to be asked.
     fn wake(&mut self, place: usize) -> Result<(), NoMemory> {
-        let Some(row) = self.waiting.get(place) else {
-            return Ok(());
-        };
-        for waiter in row.as_slice() {
-            self.due.add(*waiter)?;
+        let mut at = self.lasts.get(place).copied().unwrap_or(None);
+        for _ in 0..self.waiters.len() {
+            let Some(waiter) = at.and_then(|k| self.waiters.get(k).copied()) else {
+                return Ok(());
+            };
+            self.due.add(waiter.place)?;
+            at = waiter.next;
         }
         Ok(())
     }
@@ -139,9 +143,11 @@ impl Queues {
         self.compounds.add(place, awaited)
     }
 
-    /// A method is to be asked what it is by what is known.
-    pub(crate) fn ask_known(&mut self, place: usize) -> Result<(), NoMemory> {
-        self.errors.due.add(place)?;
+    /// A method is to be asked whether it is compound by what is known, and where it may be, whether it is an error by that.
+    pub(crate) fn ask_known(&mut self, place: usize, may_be_error: bool) -> Result<(), NoMemory> {
+        if may_be_error {
+            self.errors.due.add(place)?;
+        }
         self.compounds.due.add(place)
     }
 

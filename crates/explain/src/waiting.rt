@@ -75,10 +75,12 @@ fn add_method<A: Assigned>(
     for part in found.heavy.as_slice() {
         add_call(walk, queues, place, part)?;
     }
+    let required = method.requires_.as_slice();
     for other in over.of(id) {
-        add_overriding(walk, queues, place, *other, method.requires_.as_slice())?;
+        add_overriding(walk, queues, place, *other, required)?;
     }
-    queues.ask_known(place)
+    let is_error = walk.assigned.at(id, required) == Basic::Error;
+    queues.ask_known(place, is_error)
 }
 
 /// Each method without a rank waits for those by which it is more than `atomic`, and is to be asked at first.

@@ -95,6 +95,9 @@ fn lines_of<A: Assigned>(
         (row_at over.now) (map arranged_data all.now) (string_bytes text)) }
 {
     let mut text = String::new(walk.alloc);
+    if all.is_empty() {
+        return Ok(text);
+    }
     let mut finals = FinalFields::of(walk.alloc, walk.program)?;
     for x in all {
         add_block(told, walk, &mut finals, over, x, &mut text)?;
