@@ -17,6 +17,7 @@ names       the same with three methods
 pairs       classes that inherit many methods, and override none
 finals      classes in a line, each of which assigns a final field of the first one
 fresh       classes in a line, each of which has a method with a name of its own
+far         classes in a line, of which each in the lower half overrides the one method of another in the upper half
 wide        a class with many methods, and one that overrides them all
 line        classes in a line, each of which overrides a method with a lock
 bad         the same with an empty method, which the last one alone overrides with a result (refused)
@@ -178,6 +179,11 @@ def fresh(count: int) -> str:
     return MAIN + "".join(heirs(count, lambda k: f"void f{k}(){{}}"))
 
 
+def far(count: int) -> str:
+    upper = (count + 1) // 2
+    return MAIN + "".join(heirs(count, lambda k: f"void f{k % upper}(){{}}"))
+
+
 def bad(count: int) -> str:
     return MAIN + "".join(heirs(count, lambda k: RESULT if k == count - 1 else "void f(){}"))
 
@@ -261,6 +267,7 @@ FAMILIES: dict[str, Family] = {
     "pairs": pairs,
     "finals": finals,
     "fresh": fresh,
+    "far": far,
     "wide": wide,
     "line": line,
     "bad": bad,

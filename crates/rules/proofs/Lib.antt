@@ -16,6 +16,8 @@ pub mod UniqueSets
 pub mod Required
 -- The rows of nearest methods lead to all that override (Leading).
 pub mod Leading
+-- A walk through the classes finds the nearest methods above (AboveLemmas).
+mod AboveLemmas
 -- What those rows tell gives the near paths (PassingLemmas).
 mod PassingLemmas
 -- Lemmas on callers: measures of bodies (Weights, Blocks), methods in memory (CallerLookups), rows of callers (CalleeLemmas), and what the effect

@@ -14,6 +14,8 @@ pub mod Overriding
 pub mod Limits
 -- The rows of nearest methods that override (Nearest).
 pub mod Nearest
+-- What a walk through the classes knows of the nearest methods above (Above).
+pub mod Above
 pub mod Passing
 -- Which methods a body calls, and the callers of each method (Called).
 pub mod Called

@@ -5,9 +5,11 @@
 //! on what is assigned to the methods that it calls alone.
 #![tactic(auto)]
 
+mod above;
 mod body_clauses;
 mod caller_laws;
 mod callers;
+mod cells;
 mod clauses;
 pub mod examples;
 mod guard;

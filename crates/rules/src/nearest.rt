@@ -1,11 +1,14 @@
 //! The nearest of the methods that override a method.
 ghost use Rattle.std.specs.Prelude.{◌≡◌, Some, IfOk, OnOk};
-ghost use Rattle.core_program.specs.Overridden.{next_overridden};
+ghost use Rattle.core_program.specs.Overridden.{next_overridden, other_than};
 ghost use Rattle.core_program.specs.Views.{program_of};
+ghost use Rattle.rules.specs.Above.{nearest_above, AreRight};
 ghost use Rattle.rules.specs.Nearest.{AreNearest};
 ghost use Rattle.rules.specs.Overriding.{IsAddedTo};
 ghost use Rattle.rules.specs.Search.{row_at, rows_of};
 
+use crate::above::nearest_above;
+use crate::cells::{Known, known_at};
 use crate::overriding::method_at;
 use crate::search::{push_at, row};
 use core_program::CoreProgram;
@@ -41,10 +44,12 @@ impl NearestMethods {
 pub fn nearest_overriders(alloc: Global, program: &CoreProgram) -> Result<NearestMethods, NoMemory>
     ensures { IfOk result (AreNearest (program_of program.now)) }
 {
+    let noted = nearest_above(alloc, program)?;
+    let known = noted.as_slice();
     let mut rows = Vec::new(alloc);
     let count = program.methods().len();
     for place in 0..count {
-        add_next(alloc, program, method_at(place)?, &mut rows)?;
+        add_next(alloc, program, known, method_at(place)?, &mut rows)?;
     }
     Ok(NearestMethods { rows })
 }
@@ -53,14 +58,34 @@ pub fn nearest_overriders(alloc: Global, program: &CoreProgram) -> Result<Neares
 fn add_next(
     alloc: Global,
     program: &CoreProgram,
+    known: &[Known],
     over: MethodId,
     rows: &mut Vec<Vec<MethodId>>,
 ) -> Result<(), NoMemory>
+    requires { AreRight (nearest_above program.now) known.now }
     ensures { OnOk result (IsAddedTo (λ m. next_overridden program.now over ≡ Some m) over (rows_of rows.old.items) (rows_of rows.new.items)) }
 {
-    let Some(next) = program.next_overridden(over) else {
+    let Some(next) = next_of(program, known, over) else {
         return Ok(());
     };
     push_at(alloc, rows, next, over)?;
     Ok(())
+}
+
+/// The next method that a method overrides.
+fn next_of(program: &CoreProgram, known: &[Known], over: MethodId) -> Option<MethodId>
+    requires { AreRight (nearest_above program.now) known.now }
+    ensures { result ≡ next_overridden program.now over }
+{
+    match known_at(known, over.0 as usize) {
+        Some(found) => other_than(over, found?),
+        None => program.next_overridden(over),
+    }
+}
+
+/// Another method than this one.
+fn other_than(method: MethodId, found: MethodId) -> Option<MethodId>
+    ensures { result ≡ other_than method found }
+{
+    if found == method { None } else { Some(found) }
 }
