@@ -20,13 +20,13 @@ use Rattle.rules.proofs.SetLemmas.{first, second}
 use Rattle.refutation.specs.Lines.{LineData, floor, overriding, joined_over, body_effect}
 use Rattle.refutation.specs.Passes.{MethodAtSet, cells_in, subsets_of, floor_at}
 use Rattle.refutation.specs.Tables.{table_entry, said_by}
-use Rattle.refutation.specs.Ends.{KeptAgrees}
+use Rattle.refutation.specs.Ends.{KeptAgrees, IsPass, cells_at}
 use Rattle.refutation.specs.Overs.{IsSaidOver, below_each}
 use Rattle.refutation.specs.Waiting.{Adds, AreSaid, AreBodiesSaid, cells_with, AreBodiesSettled, AreWoken, IsAsleep}
 use Rattle.refutation.proofs.Sets.{join_least, join_first}
 use Rattle.refutation.proofs.FloorLaws.{floor_more}
 use Rattle.refutation.proofs.MakerLemmas.{asked_inside}
-use Rattle.refutation.proofs.WaitLemmas.{floor_other, body_same, its_cells}
+use Rattle.refutation.proofs.WaitLemmas.{said_asked, floor_other, body_same, its_cells}
 
 -- Tables of which one has at most what another has.
 
@@ -117,13 +117,27 @@ module _ (P : Program) (rel : ℕ → List PathData) where
   stay_at n m (Some method) quiet old new adds said = subst (AreBodiesSaid P rel (cells_with rel n (Some method))) (sym adds.are)
       (bodies_stay n m quiet (cells_with rel n (Some method)) (its_cells P rel n method.requires_ (subsets_of (rel n))) adds.more old adds.its said)
 
-  -- after lines of a method, where all bodies that call it wait
-  pub bodies_woken : (calls : List (List ℕ)) (m : ℕ) (old new : List LineData) (waits now : List Bool) (woken : List ℕ) → AreCallers P (overs_at []) calls → m < length calls → woken ≡ callers_of_method calls m → AreBodiesSettled P rel old waits → Adds m old new → AreWoken waits now woken
-      → AreBodiesSettled P rel new now
-  bodies_woken calls m old new waits now woken are below row settled adds wakes n asleep =
+  -- what is said of them at some sets of a method that doesn't call itself is said behind lines of it
+  pub bodies_behind : (m : ℕ) → method_calls (slice_get P.methods m) [] m ≡ false → (sets : List (List PathData)) (old new : List LineData) → Adds m old new → AreBodiesSaid P rel (cells_at m sets) old → AreBodiesSaid P rel (cells_at m sets) new
+  bodies_behind m quiet sets old new adds said = subst (AreBodiesSaid P rel (cells_at m sets)) (sym adds.are) (bodies_stay m m quiet (cells_at m sets) (its sets) adds.more old adds.its said)
+    where
+      its : (xs : List (List PathData)) → AllByRecursion (λ (c : MethodAtSet). c.method ≡ m) (cells_at m xs)
+      its [] = tt
+      its (x ∷ xs) = (refl, its xs)
+
+  -- after lines of a method, where its body waits no longer, and then all bodies that call it wait
+  pub bodies_woken : (calls : List (List ℕ)) (m : ℕ) (old new : List LineData) (waits slept now : List Bool) (woken : List ℕ) → AreCallers P (overs_at []) calls → m < length calls → woken ≡ callers_of_method calls m
+      → (method_calls (slice_get P.methods m) [] m ≡ false → AreBodiesSaid P rel (cells_with rel m (slice_get P.methods m)) new) → AreBodiesSettled P rel old waits → Adds m old new → IsAsleep waits slept m → AreWoken slept now woken → AreBodiesSettled P rel new now
+  bodies_woken calls m old new waits slept now woken are below row own settled adds sleeps wakes n asleep =
       let kept = wakes n asleep in
       let quiet = false_from_ne_true (counts_as_caller P (overs_at []) n m) (λ c. both_ways (has_method woken n) kept.1 (ap (λ r. has_method r n) row ∙ are m n below c)) in
-      stay_at n m (slice_get P.methods n) quiet old new adds (settled n kept.0)
+      by n quiet kept.0 (n == m) refl
+    where
+      by : (n : ℕ) → method_calls (slice_get P.methods n) [] m ≡ false → slice_get slept n ≡ Some false → (b : Bool) → (n == m) ≡ b → AreBodiesSaid P rel (cells_with rel n (slice_get P.methods n)) new
+      by n quiet asleep true e =
+          let same = eqb-true n m e in
+          subst (λ k. AreBodiesSaid P rel (cells_with rel k (slice_get P.methods k)) new) (sym same) (own (subst (λ k. method_calls (slice_get P.methods k) [] m ≡ false) same quiet))
+      by n quiet asleep false e = stay_at n m (slice_get P.methods n) quiet old new adds (settled n (sleeps n asleep (eqb-false n m e)))
 
   -- after a method of which nothing new is to be said
   pub bodies_asleep : (m : ℕ) (method : Method) (ls now : List LineData) (waits next : List Bool) → slice_get P.methods m ≡ Some method → now ≡ ls → AreBodiesSettled P rel ls waits → AreSaid P rel (cells_in m method.requires_ (subsets_of (rel m))) ls
@@ -143,6 +157,19 @@ over_said P sets kept rows lines agrees m table whole most is much H part =
     let said : said_by rel rows ≡ floor rel lines = subst (λ s. said_by (rel_of s) rows ≡ floor (rel_of s) lines) agrees.same agrees.says.says in
     subst (λ b. AtMost b (floor rel lines m H)) (is.each (first whole (below_each table (row_at rows m)) much) H part)
     (subst (AtMost (table_entry (rel m) table H)) (ap (λ (A : Assignment). A m H) said) (entry_below (rel m) table (row_at rows m) H (second whole (below_each table (row_at rows m)) much)))
+
+-- where it has as much at one set
+pub over_said_at : (P : Program) (sets kept : List MethodPaths) (rows : List (List Basic)) (lines : List LineData) → KeptAgrees P sets kept rows lines → (m : ℕ) (table : List Basic) (whole : Bool) (most : Basic) → IsSaidOver P (rel_of sets) (floor (rel_of sets) lines) m table whole most
+    → (held : List PathData) → IsSubset (has_path held) (has_path (rel_of sets m)) → AreBodiesSaid P (rel_of sets) (record { method = m; held = held } ∷ []) lines → (whole && below_of (table_entry (rel_of kept m) table (has_path held)) (said_by (rel_of kept) rows m (has_path held))) ≡ true
+    → IsPass P (rel_of sets) (record { method = m; held = held } ∷ []) lines lines false
+over_said_at P sets kept rows lines agrees m table whole most is held part body much =
+    let rel = rel_of sets in
+    let H = has_path held in
+    let said : said_by rel rows ≡ floor rel lines = subst (λ s. said_by (rel_of s) rows ≡ floor (rel_of s) lines) agrees.same agrees.says.says in
+    let here = subst (λ s. (whole && below_of (table_entry (rel_of s m) table H) (said_by (rel_of s) rows m H)) ≡ true) agrees.same much in
+    let low = subst (AtMost (table_entry (rel m) table H)) (ap (λ (A : Assignment). A m H) said) (second whole (below_of (table_entry (rel m) table H) (said_by rel rows m H)) here) in
+    let over = subst (λ b. AtMost b (floor rel lines m H)) (is.each (first whole (below_of (table_entry (rel m) table H) (said_by rel rows m H)) here) H part) low in
+    said_asked P rel (record { method = m; held = held } ∷ []) lines (join_least _ _ _ body.0 over, tt)
 
 -- marks of bodies
 pub none_body_settled : (P : Program) (rel : ℕ → List PathData) (ls : List LineData) (waits : List Bool) → ((m : ℕ) → slice_get waits m ≡ Some false → ⊥) → AreBodiesSettled P rel ls waits

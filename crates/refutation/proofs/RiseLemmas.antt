@@ -7,6 +7,7 @@ use Rattle.std.proofs.lemmas.Bool.{eqb-true, or_cases, or_left, or_right, false_
 use Rattle.std.proofs.lemmas.List.{take_more}
 use Rattle.paths.specs.Paths.{PathData}
 use Rattle.algebra.specs.declared.basic.Basic.{Basic}
+use Rattle.algebra.specs.Basics.{below_of, join_of}
 use Rattle.algebra.specs.HeldPaths.{Held, has_path}
 use Rattle.core_program.specs.Core.{Program, Method}
 use Rattle.core_program.specs.Dispatch.{Overrides}
@@ -19,15 +20,16 @@ use Rattle.rules.specs.Called.{stmt_calls, has_method, method_calls, counts_as_c
 use Rattle.rules.proofs.BasicLemmas.{below_chain, below_itself}
 use Rattle.rules.proofs.CalleeLemmas.{contained}
 use Rattle.refutation.specs.Lines.{LineData, floor, body_effect, certified_effect}
-use Rattle.refutation.specs.Passes.{MethodAtSet, cells_in, subsets_of}
+use Rattle.refutation.specs.Certificates.{keeps_bound}
+use Rattle.refutation.specs.Passes.{MethodAtSet, LinesWritten, cells_in, subsets_of, by_tests, floor_at, up_at, line_for, pass}
 use Rattle.refutation.specs.Tables.{said_by}
-use Rattle.refutation.specs.Ends.{KeptAgrees}
+use Rattle.refutation.specs.Ends.{KeptAgrees, IsPass}
 use Rattle.refutation.specs.Overs.{SaysNoMore}
 use Rattle.refutation.specs.Waiting.{Adds, AreSaid, cells_with, AreSettled, AreWoken, AreWokenBut}
 use Rattle.refutation.proofs.Sets.{join_least, join_first, join_second}
 use Rattle.refutation.proofs.Over.{over_least, over_above}
-use Rattle.refutation.proofs.FloorLaws.{floor_more}
-use Rattle.refutation.proofs.WaitLemmas.{floor_other, body_same, its_cells}
+use Rattle.refutation.proofs.FloorLaws.{floor_more, floor_has, line_itself}
+use Rattle.refutation.proofs.WaitLemmas.{adds_none, adds_one, adds_both, floor_other, joined_stays, body_same, its_cells}
 use Rattle.refutation.proofs.BodyLemmas.{inside_cells}
 
 -- Lines of a method that rose.
@@ -90,6 +92,61 @@ module _ (P : Program) (rel : ℕ → List PathData) (m : ℕ) (old new : List L
         let before = wakes n last.0 in
         let quiet = false_from_ne_true (counts_as_caller P (overs_at []) n m) (λ c. both_ways (has_method called n) before.1 (ap (λ r. has_method r n) its ∙ are m n few c)) in
         method_stays n (slice_get P.methods n) quiet (λ c. last.1 (ap (λ r. has_method r n) theirs ∙ all m n many c)) (settled n before.0)
+
+-- What was asked of a method that doesn't call itself.
+
+module _ (P : Program) (rel : ℕ → List PathData) (m : ℕ) where
+  -- a call of it comes to the same behind lines of it
+  up_stays : (old new : List LineData) → Adds m old new → method_calls (slice_get P.methods m) [] m ≡ false → (H : Held) → certified_effect P rel (floor rel old) m H ≡ certified_effect P rel (floor rel new) m H
+  up_stays old new adds quiet H =
+      let body = body_same P rel (floor rel old) (floor rel new) m m (slice_get P.methods m) H (others_stay P rel m old new adds) [] quiet in
+      let over = joined_stays P rel m old new adds H in
+      (λ i. join_of (body i) (over i))
+
+  -- a pass over its sets adds lines of it
+  pass_adds : (cs : List MethodAtSet) → AllByRecursion (λ c. c.method ≡ m) cs → (ls : List LineData) → Adds m ls (pass P rel cs ls).all
+  pass_adds [] its ls = adds_none m ls
+  pass_adds (c ∷ cs) its ls =
+      let more = ls ++ line_for P rel ls c ∷ [] in
+      let one = adds_one m ls (line_for P rel ls c) more refl its.0 in
+      by (below_of (up_at P rel ls c) (floor_at P rel ls c)) (keeps_bound P c.method (up_at P rel ls c)) (pass_adds cs its.1 ls) (adds_both m ls more (pass P rel cs more).all one (pass_adds cs its.1 more)) one
+    where
+      by : (known keeps : Bool) → Adds m ls (pass P rel cs ls).all → Adds m ls (pass P rel cs (ls ++ line_for P rel ls c ∷ [])).all → Adds m ls (ls ++ line_for P rel ls c ∷ [])
+          → Adds m ls (by_tests known keeps (pass P rel cs ls) (pass P rel cs (ls ++ line_for P rel ls c ∷ [])) (record { all = ls ++ line_for P rel ls c ∷ []; broken = true })).all
+      by true keeps one two three = one
+      by false true one two three = two
+      by false false one two three = three
+
+  -- what a call comes to at a set, and is said there, is said behind more lines
+  said_behind : method_calls (slice_get P.methods m) [] m ≡ false → (c : MethodAtSet) → c.method ≡ m → (ls now new : List LineData) → Adds m ls new → Adds m now new → AtMost (up_at P rel ls c) (floor_at P rel now c) → AtMost (up_at P rel new c) (floor_at P rel new c)
+  said_behind quiet c its ls now new all adds low =
+      let same = subst (λ k. certified_effect P rel (floor rel ls) k (has_path c.held) ≡ certified_effect P rel (floor rel new) k (has_path c.held)) (sym its) (up_stays ls new all quiet (has_path c.held)) in
+      subst (λ b. AtMost b (floor_at P rel new c)) same (below_chain _ _ _ low (none_falls P rel m now new adds c.method (has_path c.held)))
+
+  said_after : method_calls (slice_get P.methods m) [] m ≡ false → (cs : List MethodAtSet) → AllByRecursion (λ c. c.method ≡ m) cs → (ls new : List LineData) → pass P rel cs ls ≡ record { all = new; broken = false } → AreSaid P rel cs new
+  said_after quiet [] its ls new is = tt
+  said_after quiet (c ∷ cs) its ls new is =
+      by (below_of (up_at P rel ls c) (floor_at P rel ls c)) (keeps_bound P c.method (up_at P rel ls c)) refl is (said_after quiet cs its.1 ls new) (said_after quiet cs its.1 (ls ++ line_for P rel ls c ∷ []) new)
+    where
+      by : (known keeps : Bool) → below_of (up_at P rel ls c) (floor_at P rel ls c) ≡ known
+          → by_tests known keeps (pass P rel cs ls) (pass P rel cs (ls ++ line_for P rel ls c ∷ [])) (record { all = ls ++ line_for P rel ls c ∷ []; broken = true }) ≡ record { all = new; broken = false }
+          → (pass P rel cs ls ≡ record { all = new; broken = false } → AreSaid P rel cs new) → (pass P rel cs (ls ++ line_for P rel ls c ∷ []) ≡ record { all = new; broken = false } → AreSaid P rel cs new) → AreSaid P rel (c ∷ cs) new
+      by true keeps low e skipped added =
+          let adds = subst (Adds m ls) (ap (λ (w : LinesWritten). w.all) e) (pass_adds cs its.1 ls) in
+          (said_behind quiet c its.0 ls ls new adds adds low, skipped e)
+      by false true low e skipped added =
+          let l = line_for P rel ls c in
+          let more = ls ++ l ∷ [] in
+          let adds = subst (Adds m more) (ap (λ (w : LinesWritten). w.all) e) (pass_adds cs its.1 more) in
+          let here = subst (λ b. AtMost b (floor_at P rel more c)) (line_itself rel l) (floor_has rel ls l c.method (has_path c.held)) in
+          (said_behind quiet c its.0 ls more new (adds_both m ls more new (adds_one m ls l more refl its.0) adds) adds here, added e)
+      by false false low e skipped added = absurd (let f : true ≡ false = ap (λ (w : LinesWritten). w.broken) e in cc)
+
+  -- asked at all its sets, nothing new is to be said of it
+  pub said_quiet : (required : List PathData) (old new : List LineData) → method_calls (slice_get P.methods m) [] m ≡ false → IsPass P rel (cells_in m required (subsets_of (rel m))) old new false → AreSaid P rel (cells_in m required (subsets_of (rel m))) new
+  said_quiet required old new quiet asked =
+      let cells = cells_in m required (subsets_of (rel m)) in
+      said_after quiet cells (its_cells P rel m required (subsets_of (rel m))) old new (ap (λ cs. pass P rel cs old) (sym (append-nil cells)) ∙ asked [])
 
 -- what the tables say of two methods, the lines say
 pub no_more_kept : (P : Program) (sets kept : List MethodPaths) (rows : List (List Basic)) (lines : List LineData) → KeptAgrees P sets kept rows lines → (m n : ℕ) → SaysNoMore (rel_of kept) (said_by (rel_of kept) rows) m n → SaysNoMore (rel_of sets) (floor (rel_of sets) lines) m n

@@ -1,6 +1,6 @@
 -- Tables: what they say with const everywhere, and what they say after one of them was raised.
 use Rattle.std.proofs.Common.{◌≡◌, ℕ, zero, suc, ◌+◌, ◌<◌, ◌≤◌, ◌/◌, ◌⊎◌, Bool, true, false, ◌&&◌, ◌==◌, List, [], ◌∷◌, ◌++◌, length, take, drop, get_or, slice_get, slice_set, Some, None, refl, sym, ap, subst, ◌∙◌, arith, inl, inr}
-use Rattle.std.specs.Prelude.{if◌then◌else◌}
+use Rattle.std.specs.Prelude.{map, if◌then◌else◌}
 use Rattle.std.proofs.lemmas.List.{length-append}
 use Rattle.std.proofs.lemmas.Option.{slice_get-get_or, slice_get_cases}
 use Rattle.std.proofs.lemmas.Bool.{and_from, eqb-true, eqb-false}
@@ -18,7 +18,7 @@ use Rattle.rules.specs.Rules.{AtMost}
 use Rattle.rules.proofs.BasicLemmas.{below_chain, join_mono, below_itself, both_below}
 use Rattle.rules.proofs.SetLemmas.{first, second}
 use Rattle.refutation.specs.Lines.{LineData, covers, line_at, floor}
-use Rattle.refutation.specs.Tables.{table_entry, said_by, consts, raised_at_subsets, IsRaised, TablesSay}
+use Rattle.refutation.specs.Tables.{table_entry, said_by, consts, raised_at_marks, raised_at_subsets, IsRaised, TablesSay}
 use Rattle.refutation.proofs.Sets.{join_least, join_first, join_second, join_const, choice_low, covers_part, part_covers}
 use Rattle.refutation.proofs.FloorLaws.{choice_falls, floor_more, floor_has, floor_both}
 
@@ -41,6 +41,17 @@ half_none false = take_empty (length {A = Basic} [] / 2) [] refl
 either_same : (b : Bool) (xs : List Basic) → (if b then xs else xs) ≡ xs
 either_same true xs = refl
 either_same false xs = refl
+
+-- At marks that tell which paths are held, a table is raised as at these.
+pub raised_marked : (rel held : List PathData) (marks : List Bool) (b : Basic) (table : List Basic) → marks ≡ map (has_path held) rel → raised_at_marks marks b table ≡ raised_at_subsets rel held b table
+raised_marked rel held marks b table are = ap (λ ms. raised_at_marks ms b table) are ∙ by rel table
+  where
+    by : (rel : List PathData) (table : List Basic) → raised_at_marks (map (has_path held) rel) b table ≡ raised_at_subsets rel held b table
+    by [] table = refl
+    by (p ∷ ps) table =
+        let without = by ps (half_table false table) in
+        let with_it = by ps (half_table true table) in
+        (λ i. without i ++ (if has_path held p then with_it i else half_table true table))
 
 -- Where nothing is said.
 

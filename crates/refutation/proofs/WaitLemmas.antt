@@ -121,7 +121,7 @@ module _ (P : Program) (rel : ℕ → List PathData) where
       by (l ∷ more) ls its is = subst (λ xs. IsMostOver P rel xs m most) (append_assoc ls (l ∷ []) more) (by more (ls ++ l ∷ []) its.1 (one l ls its.0 is))
 
   -- nor less
-  joined_stays : (m : ℕ) (old new : List LineData) → Adds m old new → (H : Held) → joined_over rel (floor rel old) (overriding P m) H ≡ joined_over rel (floor rel new) (overriding P m) H
+  pub joined_stays : (m : ℕ) (old new : List LineData) → Adds m old new → (H : Held) → joined_over rel (floor rel old) (overriding P m) H ≡ joined_over rel (floor rel new) (overriding P m) H
   joined_stays m old new adds H = by adds.more old adds.its ∙ ap (λ ls. joined_over rel (floor rel ls) (overriding P m) H) (sym adds.are)
     where
       same : (l : LineData) (ls : List LineData) → l.method ≡ m → (n : ℕ) → Overrides P n m → floor rel ls n (held_in (rel n) H) ≡ floor rel (ls ++ l ∷ []) n (held_in (rel n) H)

@@ -1,5 +1,5 @@
 -- What the calls keep for each method: the greatest of what the lines so far say of it, at each part of its relevant paths.
-use Rattle.std.specs.Prelude.{◌≡◌, ℕ, ◌<◌, ◌==◌, true, false, List, [], ◌∷◌, ◌++◌, length, if◌then◌else◌}
+use Rattle.std.specs.Prelude.{◌≡◌, ℕ, ◌<◌, ◌==◌, Bool, true, false, List, [], ◌∷◌, ◌++◌, length, if◌then◌else◌}
 use Rattle.paths.specs.Paths.{PathData}
 use Rattle.algebra.specs.declared.basic.Basic.{Basic}
 use Rattle.algebra.specs.declared.basic.Basic.TheVariants.{Const}
@@ -28,6 +28,11 @@ consts (p ∷ ps) = consts ps ++ consts ps
 abbrev pub front_joined : Basic → List Basic → List Basic
 front_joined b [] = []
 front_joined b (x ∷ xs) = join_of x b ∷ xs
+
+-- a basic is joined with the first of a table, and with those that stand in second halves at marked places alone
+abbrev pub raised_at_marks : (marks : List Bool) → Basic → List Basic → List Basic
+raised_at_marks [] b table = front_joined b table
+raised_at_marks (is_held ∷ marks) b table = raised_at_marks marks b (half_table false table) ++ (if is_held then raised_at_marks marks b (half_table true table) else half_table true table)
 
 -- a basic is joined at each part of these held paths
 abbrev pub raised_at_subsets : (rel held : List PathData) → Basic → List Basic → List Basic

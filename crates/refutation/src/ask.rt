@@ -1,10 +1,11 @@
 //! What is still to be said of one method.
-ghost use Rattle.std.specs.Prelude.{◌≡◌, ◌∷◌, ◌<◌, [], true, length, IfOk, OnOk};
+ghost use Rattle.std.specs.Prelude.{◌≡◌, ◌∷◌, ◌<◌, [], true, false, length, slice_get, IfOk, OnOk};
 ghost use Rattle.std.specs.List.{AllByRecursion};
 ghost use Rattle.std.specs.List.Sorted.{IsStrictlySortedBy};
 ghost use Rattle.paths.specs.Paths.{path_order};
 ghost use Rattle.algebra.specs.HeldPaths.{has_path};
 ghost use Rattle.core_program.specs.Views.{program_of, method_of};
+ghost use Rattle.rules.specs.Called.{method_calls};
 ghost use Rattle.rules.specs.Near.{AreRelevant, rel_of};
 ghost use Rattle.rules.specs.Overriding.{AreOverriders};
 ghost use Rattle.rules.specs.Rules.{IsSubset, AtMost};
@@ -19,7 +20,7 @@ use crate::check::keeps_bound;
 use crate::floors::Floors;
 use crate::judged::Judged;
 use crate::line::Line;
-use crate::overs::{OverSaid, tells_as_much};
+use crate::overs::{OverSaid, tells_as_much, tells_as_much_at};
 use crate::parts::{HeldSet, parts_with};
 use crate::said::Said;
 use crate::short_path::packed;
@@ -64,28 +65,56 @@ fn ask(
     Ok(!keeps_bound(judged.program, method, found))
 }
 
+/// Asks so, but not where what the method's body comes to is said there, and as much as is said of the methods that override it.
+fn ask_unsaid(
+    alloc: Global,
+    judged: &Judged<'_>,
+    said: &mut Said<'_>,
+    over: &OverSaid,
+    held: &[Path],
+    is_said: bool,
+) -> Result<bool, NoMemory>
+    requires there { over.now.method < length (program_of judged.now.program.now).methods }
+    requires over { AreOverriders (program_of judged.now.program.now) judged.now.over.now }
+    requires said { let rel = rel_of judged.now.sets.now in IsSaidOver (program_of judged.now.program.now) rel (floor rel said.old.lines.items) over.now.method over.now.table over.now.whole over.now.most }
+    requires agrees { KeptAgrees (program_of judged.now.program.now) judged.now.sets.now said.old.floors.sets.now said.old.floors.tables.items said.old.lines.items }
+    requires ascends { IsStrictlySortedBy path_order held.now }
+    requires inside { IsSubset (has_path held.now) (has_path (rel_of judged.now.sets.now over.now.method)) }
+    requires body { is_said ≡ true → AreBodiesSaid (program_of judged.now.program.now) (rel_of judged.now.sets.now) (record { method = over.now.method; held = held.now } ∷ []) said.old.lines.items }
+    ensures agrees { OnOk result (KeptAgrees (program_of judged.now.program.now) judged.now.sets.now said.new.floors.sets.now said.new.floors.tables.items said.new.lines.items) }
+    ensures adds { OnOk result (Adds over.now.method said.old.lines.items said.new.lines.items) }
+    ensures asked { IfOk result (λ broken. IsPass (program_of judged.now.program.now) (rel_of judged.now.sets.now) (record { method = over.now.method; held = held.now } ∷ []) said.old.lines.items said.new.lines.items broken) }
+{
+    if is_said && tells_as_much_at(&said.floors, over, held) {
+        return Ok(false);
+    }
+    ask(alloc, judged, said, over, over.method, held)
+}
+
 /// Asks of a method at each of these sets, up to the first line that is above its bound.
 fn ask_sets(
     alloc: Global,
     judged: &Judged<'_>,
     said: &mut Said<'_>,
     over: &OverSaid,
-    method: MethodId,
     parts: &[HeldSet],
+    is_said: bool,
 ) -> Result<bool, NoMemory>
-    requires there { method < length (program_of judged.now.program.now).methods }
+    requires there { over.now.method < length (program_of judged.now.program.now).methods }
     requires over { AreOverriders (program_of judged.now.program.now) judged.now.over.now }
-    requires said { let rel = rel_of judged.now.sets.now in IsSaidOver (program_of judged.now.program.now) rel (floor rel said.old.lines.items) method over.now.table over.now.whole over.now.most }
+    requires said { let rel = rel_of judged.now.sets.now in IsSaidOver (program_of judged.now.program.now) rel (floor rel said.old.lines.items) over.now.method over.now.table over.now.whole over.now.most }
     requires agrees { KeptAgrees (program_of judged.now.program.now) judged.now.sets.now said.old.floors.sets.now said.old.floors.tables.items said.old.lines.items }
     requires ascend { AllByRecursion (IsStrictlySortedBy path_order) parts.now }
-    requires inside { AllByRecursion (λ held. IsSubset (has_path held) (has_path (rel_of judged.now.sets.now method))) parts.now }
+    requires inside { AllByRecursion (λ held. IsSubset (has_path held) (has_path (rel_of judged.now.sets.now over.now.method))) parts.now }
+    requires quiet { is_said ≡ true → method_calls (slice_get (program_of judged.now.program.now).methods over.now.method) [] over.now.method ≡ false }
+    requires body { is_said ≡ true → AreBodiesSaid (program_of judged.now.program.now) (rel_of judged.now.sets.now) (cells_at over.now.method parts.now) said.old.lines.items }
     ensures agrees { OnOk result (KeptAgrees (program_of judged.now.program.now) judged.now.sets.now said.new.floors.sets.now said.new.floors.tables.items said.new.lines.items) }
-    ensures adds { OnOk result (Adds method said.old.lines.items said.new.lines.items) }
-    ensures asked { IfOk result (λ broken. IsPass (program_of judged.now.program.now) (rel_of judged.now.sets.now) (cells_at method parts.now) said.old.lines.items said.new.lines.items broken) }
+    ensures adds { OnOk result (Adds over.now.method said.old.lines.items said.new.lines.items) }
+    ensures asked { IfOk result (λ broken. IsPass (program_of judged.now.program.now) (rel_of judged.now.sets.now) (cells_at over.now.method parts.now) said.old.lines.items said.new.lines.items broken) }
 {
     for part in parts {
         let held = part.paths.as_slice();
-        if ask(alloc, judged, said, over, method, held)? {
+        if ask_unsaid(alloc, judged, said, over, held, is_said)? {
             return Ok(true);
         }
     }
@@ -108,7 +137,7 @@ pub(crate) fn said_at_most(judged: &Judged<'_>, floors: &Floors<'_>, method: Met
 }
 
 /// Asks of a method at each part of its relevant paths that has its required ones, up to the first line that is above its bound. Where
-/// what its body comes to is said there, and as much is said of it as of the methods that override it, none of them is asked at.
+/// what its body comes to is said at them all, it is asked at those alone at which less is said of it than of the methods that override it.
 pub(crate) fn ask_method(
     alloc: Global,
     judged: &Judged<'_>,
@@ -122,6 +151,7 @@ pub(crate) fn ask_method(
     requires said { let rel = rel_of judged.now.sets.now in IsSaidOver (program_of judged.now.program.now) rel (floor rel said.old.lines.items) over.now.method over.now.table over.now.whole over.now.most }
     requires relevant { AreRelevant (program_of judged.now.program.now) judged.now.sets.now }
     requires agrees { KeptAgrees (program_of judged.now.program.now) judged.now.sets.now said.old.floors.sets.now said.old.floors.tables.items said.old.lines.items }
+    requires quiet { is_said ≡ true → method_calls (slice_get (program_of judged.now.program.now).methods over.now.method) [] over.now.method ≡ false }
     requires body { let rel = rel_of judged.now.sets.now in
         is_said ≡ true → AreBodiesSaid (program_of judged.now.program.now) rel (cells_in over.now.method (method_of method.now).requires_ (subsets_of (rel over.now.method))) said.old.lines.items }
     ensures agrees { OnOk result (KeptAgrees (program_of judged.now.program.now) judged.now.sets.now said.new.floors.sets.now said.new.floors.tables.items said.new.lines.items) }
@@ -134,5 +164,5 @@ pub(crate) fn ask_method(
         return Ok(false);
     }
     let parts = parts_with(alloc, judged.sets.rel(id), method.requires_.as_slice())?;
-    ask_sets(alloc, judged, said, over, id, parts.as_slice())
+    ask_sets(alloc, judged, said, over, parts.as_slice(), is_said)
 }

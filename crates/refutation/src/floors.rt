@@ -1,12 +1,13 @@
 //! What the lines so far say of each method.
-ghost use Rattle.std.specs.Prelude.{◌≡◌, ◌∷◌, ◌++◌, ◌<◌, ℕ, List, [], length, IfOk};
+ghost use Rattle.std.specs.Prelude.{◌≡◌, ◌∷◌, ◌++◌, ◌<◌, ℕ, List, [], true, length, map, IfOk};
 ghost use Rattle.algebra.specs.HeldPaths.{has_path};
 ghost use Rattle.rules.specs.Near.{rel_of};
 ghost use Rattle.rules.specs.Search.{row_at};
 ghost use Rattle.refutation.specs.Lines.{LineData};
-ghost use Rattle.refutation.specs.Tables.{IsRaised, TablesSay, consts, table_entry, raised_at_subsets};
+ghost use Rattle.refutation.specs.Tables.{IsRaised, TablesSay, consts, table_entry, raised_at_marks, raised_at_subsets};
 
 use algebra::{Basic, front, half, has};
+use arrayvec::ArrayVec;
 use effects::Assigned;
 use paths::{MethodId, Path};
 use rules::RelevantSets;
@@ -51,6 +52,9 @@ impl Assigned for Floors<'_> {
     }
 }
 
+/// Whether each of some paths is held.
+type Marks = ArrayVec<bool, 16>;
+
 /// The table of a method; empty where there is no such method.
 pub(crate) fn table_at(tables: &[Table], method: MethodId) -> &[Basic]
     ensures { result.now ≡ row_at tables.now method }
@@ -85,8 +89,43 @@ pub(crate) fn consts(alloc: Global, rel: &[Path]) -> Result<Vec<Basic>, NoMemory
     Ok(table)
 }
 
-/// Joins a basic at each part of these held paths.
-fn raise(rel: &[Path], held: &[Path], found: Basic, table: &mut [Basic])
+/// Adds whether a path is held, if there is room for it.
+fn marked(marks: &mut Marks, is_held: bool) -> bool
+    ensures { result ≡ true → marks.new.items ≡ marks.old.items ++ is_held ∷ [] }
+{
+    marks.try_push(is_held).is_ok()
+}
+
+/// Adds which of these paths are held, if there is room for it.
+fn mark(rel: &[Path], held: &[Path], marks: &mut Marks) -> bool
+    ensures { result ≡ true → marks.new.items ≡ marks.old.items ++ map (has_path held.now) rel.now }
+{
+    let Some((path, rest)) = rel.split_first() else {
+        return true;
+    };
+    marked(marks, has(held, path)) && mark(rest, held, marks)
+}
+
+/// Joins a basic with the first of a table, and with those that stand in second halves at marked places alone.
+fn raise_marked(marks: &[bool], found: Basic, table: &mut [Basic])
+    ensures { table.new ≡ raised_at_marks marks.now found table.old }
+{
+    let Some((is_held, rest)) = marks.split_first() else {
+        if let Some(first) = table.first_mut() {
+            *first = first.join(found);
+        }
+        return;
+    };
+    let middle = table.len() / 2;
+    let (without, with) = table.split_at_mut(middle);
+    raise_marked(rest, found, without);
+    if *is_held {
+        raise_marked(rest, found, with);
+    }
+}
+
+/// The same for paths that are too many to be marked.
+fn raise_many(rel: &[Path], held: &[Path], found: Basic, table: &mut [Basic])
     ensures { table.new ≡ raised_at_subsets rel.now held.now found table.old }
 {
     let Some((path, rest)) = rel.split_first() else {
@@ -97,10 +136,22 @@ fn raise(rel: &[Path], held: &[Path], found: Basic, table: &mut [Basic])
     };
     let middle = table.len() / 2;
     let (without, with) = table.split_at_mut(middle);
-    raise(rest, held, found, without);
+    raise_many(rest, held, found, without);
     if has(held, path) {
-        raise(rest, held, found, with);
+        raise_many(rest, held, found, with);
     }
+}
+
+/// Joins a basic at each part of these held paths. Which are held is looked up once.
+fn raise(rel: &[Path], held: &[Path], found: Basic, table: &mut [Basic])
+    ensures { table.new ≡ raised_at_subsets rel.now held.now found table.old }
+{
+    let mut marks = ArrayVec::new();
+    if !mark(rel, held, &mut marks) {
+        raise_many(rel, held, found, table);
+        return;
+    }
+    raise_marked(marks.as_slice(), found, table);
 }
 
 /// The method at a place. There is no memory for more methods than numbers.

@@ -1,23 +1,25 @@
 //! What is said of all methods that override one, in one table.
 ghost use Rattle.std.specs.Prelude.{◌≡◌, ◌&&◌, true, List, length, IfOk, OnOk};
+ghost use Rattle.algebra.specs.Basics.{below_of};
+ghost use Rattle.algebra.specs.HeldPaths.{has_path};
 ghost use Rattle.core_program.specs.Views.{program_of};
 ghost use Rattle.rules.specs.Near.{rel_of};
 ghost use Rattle.rules.specs.Overriding.{AreOverriders};
 ghost use Rattle.rules.specs.Search.{row_at};
 ghost use Rattle.refutation.specs.Lines.{LineData, floor};
-ghost use Rattle.refutation.specs.Tables.{TablesSay, said_by};
+ghost use Rattle.refutation.specs.Tables.{TablesSay, said_by, table_entry};
 ghost use Rattle.refutation.specs.Overs.{AreOversTold, IsSaidOver, TellsOver, SaysNoMore, below_each};
 
 use crate::ask::said_at_most;
-use crate::floors::{Floors, Table, consts, table_at};
+use crate::floors::{Floors, Table, consts, entry, table_at};
 use crate::groups::{groups_of, join_groups};
 use crate::judged::Judged;
 use crate::steps::{align, is_within};
 use crate::told::{OverTables, Sight, after};
 use algebra::Basic;
 use arrayvec::ArrayVec;
-use effects::has_all;
-use paths::MethodId;
+use effects::{Assigned, has_all};
+use paths::{MethodId, Path};
 use std::alloc::{AllocError as NoMemory, Global};
 
 /// What is said of the methods that override one. Where the table is whole, it has the greatest at each part of the method's relevant
@@ -240,6 +242,19 @@ pub(crate) fn tells_as_much(floors: &Floors<'_>, over: &OverSaid, method: Method
 {
     let its = table_at(floors.tables.as_slice(), method);
     over.whole && are_below(over.table.basics.as_slice(), its)
+}
+
+/// Whether as much is said of a method where these paths are held as of the methods that override it, where their table is whole.
+pub(crate) fn tells_as_much_at(floors: &Floors<'_>, over: &OverSaid, held: &[Path]) -> bool
+    ensures { let rel = rel_of floors.now.sets.now in
+        result ≡ (over.now.whole && below_of (table_entry (rel over.now.method) over.now.table (has_path held.now)) (said_by rel floors.now.tables.items over.now.method (has_path held.now))) }
+{
+    if !over.whole {
+        return false;
+    }
+    let rel = floors.sets.rel(over.method);
+    let others = entry(rel, over.table.basics.as_slice(), held);
+    others.below(floors.at(over.method, held))
 }
 
 /// Whether what is said of a method is said of another too, where only relevant paths of that one are held. False tells nothing.

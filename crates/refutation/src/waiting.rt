@@ -1,10 +1,10 @@
 //! Asking one method, and which methods wait then.
-ghost use Rattle.std.specs.Prelude.{◌≡◌, ◌<◌, ◌∷◌, [], length, Some, IfOk, OnOk, false, slice_get};
+ghost use Rattle.std.specs.Prelude.{◌≡◌, ◌<◌, ◌∷◌, [], length, Some, IfOk, OnOk, true, false, slice_get};
 ghost use Rattle.core_program.specs.Views.{program_of, method_of};
 ghost use Rattle.rules.specs.Near.{AreRelevant, rel_of};
 ghost use Rattle.rules.specs.Overriding.{AreOverriders};
 ghost use Rattle.rules.specs.Search.{row_at as overs_at};
-ghost use Rattle.rules.specs.Called.{AreCallers, callers_of_method};
+ghost use Rattle.rules.specs.Called.{AreCallers, callers_of_method, has_method};
 ghost use Rattle.refutation.specs.Ends.{KeptAgrees, IsPass};
 ghost use Rattle.refutation.specs.Passes.{cells_in, subsets_of};
 ghost use Rattle.refutation.specs.Overs.{SaysNoMore};
@@ -81,9 +81,34 @@ fn callers_at(rows: &[Callers], place: usize) -> &[usize]
     }
 }
 
+/// Whether a place is one of these.
+fn has_place(places: &[usize], place: usize) -> bool
+    ensures { result ≡ has_method places.now place }
+{
+    for other in places {
+        if *other == place {
+            return true;
+        }
+    }
+    false
+}
+
+/// Whether what a method's body comes to is said, and stays so whatever more is said of the method: it doesn't wait, and doesn't call
+/// itself.
+fn is_body_said(asking: &Asking<'_>, bodies: &Waits, place: usize) -> bool
+    requires { place < length bodies.now }
+    ensures said { result ≡ true → slice_get bodies.now place ≡ Some false }
+    ensures quiet { result ≡ true → has_method (callers_of_method asking.now.calls.now place) place ≡ false }
+{
+    if bodies.has(place) {
+        return false;
+    }
+    !has_place(callers_at(asking.calls, place), place)
+}
+
 /// Asks of a method at each part of its relevant paths that has its required ones, up to the first line that is above its bound. Where
 /// that adds a line, the methods that call it wait, and it waits itself, and so do those that it overrides of which less is said; else it
-/// waits no longer. The bodies of those that call it wait too.
+/// waits no longer. Its body doesn't wait then, but those of all that call it do.
 pub(crate) fn ask_noting(
     alloc: Global,
     asking: &Asking<'_>,
@@ -116,14 +141,14 @@ pub(crate) fn ask_noting(
 {
     let before = said.lines.len();
     let place = id.0 as usize;
-    let is_said = !waits.bodies.has(place);
+    let is_said = is_body_said(asking, &waits.bodies, place);
     let over = said_of_overriding(alloc, asking.judged, &said.floors, &mut waits.known, id)?;
     if ask_method(alloc, asking.judged, said, &over, method, is_said)? {
         return Ok(true);
     }
+    waits.bodies.sleep(place);
     if said.lines.len() == before {
         waits.methods.sleep(place);
-        waits.bodies.sleep(place);
         return Ok(false);
     }
     wake(&mut waits.methods, callers_at(asking.calls, place));

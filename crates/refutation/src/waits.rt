@@ -25,8 +25,8 @@ impl Model for Waits {
     ghost invariant = { λ w. WaitWithin w.flags.items w.first w.end };
 }
 
-/// Which methods wait to be asked, and whose bodies do. A method that waits while its body doesn't does so only since one that overrides it
-/// rose. And what is known of the methods that override others.
+/// Which methods wait to be asked, and whose bodies do. Of a method that waits while its body doesn't, what the body comes to is said. And
+/// what is known of the methods that override others.
 #[derive(Drop)]
 pub(crate) struct Waiting {
     pub(crate) methods: Waits,

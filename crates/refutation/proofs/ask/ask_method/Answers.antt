@@ -6,6 +6,8 @@ use Rattle.core_program.specs.Views.{program_of, method_of}
 use Rattle.rules.specs.Near.{rel_of}
 use Rattle.rules.specs.Rules.{IsSubset}
 use Rattle.refutation.specs.Passes.{cells_in, subsets_of}
+use Rattle.refutation.specs.Ends.{cells_at}
+use Rattle.refutation.specs.Waiting.{AreBodiesSaid}
 use Rattle.refutation.proofs.BodyLemmas.{over_said, said_of_bodies}
 use Rattle.refutation.proofs.MakerLemmas.{asked_ascend, asked_inside}
 use Rattle.refutation.proofs.WaitLemmas.{said_asked}
@@ -22,6 +24,15 @@ ask_sets-requires-clause-inside c =
     let parts = c.as_slice-2.result.now in
     subst (λ ps. AllByRecursion (λ held. IsSubset (has_path held) (has_path ps)) parts) c.rel.ensures
     (asked_inside rel c.as_slice.result.now parts (c.as_slice-2.ensures.value ∙ c.in_ok-parts.ensures))
+
+pub ask_sets-requires-clause-body : goal.ask_sets-requires-clause-body
+ask_sets-requires-clause-body c = λ is.
+    let P = program_of c.args.judged.now.program.now in
+    let rel = rel_of c.args.judged.now.sets.now in
+    let m = c.args.over.now.method in
+    let required = (method_of c.args.method.now).requires_ in
+    let same : cells_in m required (subsets_of (rel m)) ≡ cells_at m c.as_slice-2.result.now = search rules in
+    subst (λ cells. AreBodiesSaid P rel cells c.args.said.now.lines.items) same (c.requires.body is)
 
 pub returns-then-tells_as_much-clause-asked : goal.returns-then-tells_as_much-clause-asked
 returns-then-tells_as_much-clause-asked c =

@@ -1,18 +1,19 @@
 -- Who is settled and what is known where no line was added, and where one was.
-use Rattle.std.proofs.Common.{◌≡◌, ◌<◌, true, false, length, rules, slice_get, Some, sym, ap, subst, ◌∙◌, arith}
-use Rattle.std.proofs.lemmas.Bool.{not-true}
+use Rattle.std.proofs.Common.{◌≡◌, ◌<◌, [], true, false, length, rules, slice_get, Some, sym, ap, subst, ◌∙◌, arith}
+use Rattle.std.proofs.lemmas.Bool.{false_from_ne_true, both_ways}
 use Rattle.std.proofs.lemmas.Option.{slice_get_within}
 use Rattle.core_program.specs.Views.{program_of, method_of}
 use Rattle.rules.specs.Near.{rel_of}
-use Rattle.rules.specs.Called.{callers_of_method}
+use Rattle.rules.specs.Called.{has_method, method_calls, counts_as_caller, callers_of_method}
+use Rattle.rules.specs.Search.{row_at as overs_at}
 use Rattle.refutation.specs.Passes.{cells_in, subsets_of}
 use Rattle.refutation.specs.Lines.{floor}
 use Rattle.refutation.specs.Ends.{IsPass}
 use Rattle.refutation.specs.Overs.{IsSaidOver}
 use Rattle.refutation.specs.Waiting.{Adds, AreBodiesSaid, AreOversKnown, IsAsleep, cells_with}
-use Rattle.refutation.proofs.BodyLemmas.{bodies_asleep, bodies_woken}
+use Rattle.refutation.proofs.BodyLemmas.{bodies_of_said, bodies_asleep, bodies_woken}
 use Rattle.refutation.proofs.KnownOver.{told_by, told_still, known_risen}
-use Rattle.refutation.proofs.RiseLemmas.{settled_risen, no_more_kept}
+use Rattle.refutation.proofs.RiseLemmas.{settled_risen, said_quiet, no_more_kept}
 use Rattle.refutation.proofs.WaitLemmas.{asked_said, adds_nothing, settled_asleep}
 use Rattle.refutation.proofs.waiting.ask_noting.Goals as goal
 
@@ -27,9 +28,9 @@ returns-then-len-before-clause-settled c =
     let kept : c.in_ok-ask_method.field-0 ≡ false = search rules in
     let its = c.in_ok-over.ensures.its in
     let same = adds_nothing m old new (subst (λ k. Adds k old new) its c.in_ok-ask_method.ensures.adds) (omega (arith, c.if-len-before.true, c.len.ensures, c.len-before.ensures, c.ask_method.new.said.lines.ok, c.args.said.now.lines.ok)) in
-    λ e. settled_asleep P rel m method old new c.args.waits.now.methods c.sleep.new.self c.requires.is same c.requires.settled
+    λ e. settled_asleep P rel m method old new c.args.waits.now.methods c.sleep-then-len-before.new.self c.requires.is same c.requires.settled
     (subst (λ b. IsPass P rel (cells_in m method.requires_ (subsets_of (rel m))) old new b) kept (subst (λ k. IsPass P rel (cells_in k method.requires_ (subsets_of (rel k))) old new c.in_ok-ask_method.field-0) its c.in_ok-ask_method.ensures.asked))
-    (subst (λ k. IsAsleep c.args.waits.now.methods c.sleep.new.self k) c.id.view_is c.sleep.ensures.asleep)
+    (subst (λ k. IsAsleep c.args.waits.now.methods c.sleep-then-len-before.new.self k) c.id.view_is c.sleep-then-len-before.ensures.asleep)
 
 pub returns-clause-settled : goal.returns-clause-settled
 returns-clause-settled c =
@@ -61,20 +62,28 @@ returns-then-len-before-clause-bodies c =
     let its = c.in_ok-over.ensures.its in
     let same = adds_nothing m old new (subst (λ k. Adds k old new) its c.in_ok-ask_method.ensures.adds) (omega (arith, c.if-len-before.true, c.len.ensures, c.len-before.ensures, c.ask_method.new.said.lines.ok, c.args.said.now.lines.ok)) in
     let asked = subst (λ b. IsPass P rel cells old new b) kept (subst (λ k. IsPass P rel (cells_in k method.requires_ (subsets_of (rel k))) old new c.in_ok-ask_method.field-0) its c.in_ok-ask_method.ensures.asked) in
-    λ e. bodies_asleep P rel m method old new c.args.waits.now.bodies c.sleep-then-len-before.new.self c.requires.is same c.requires.bodies
+    λ e. bodies_asleep P rel m method old new c.args.waits.now.bodies c.sleep.new.self c.requires.is same c.requires.bodies
     (asked_said P rel cells old (subst (λ ls. IsPass P rel cells old ls false) same asked))
-    (subst (λ k. IsAsleep c.args.waits.now.bodies c.sleep-then-len-before.new.self k) c.id.view_is c.sleep-then-len-before.ensures.asleep)
+    (subst (λ k. IsAsleep c.args.waits.now.bodies c.sleep.new.self k) c.id.view_is c.sleep.ensures.asleep)
 
 pub returns-clause-bodies : goal.returns-clause-bodies
 returns-clause-bodies c =
     let P = program_of c.args.asking.now.judged.now.program.now in
     let rel = rel_of c.args.asking.now.judged.now.sets.now in
     let m = c.args.id in
+    let method = method_of c.args.method.now in
+    let cells = cells_in m method.requires_ (subsets_of (rel m)) in
     let calls = c.args.asking.now.calls.now in
+    let old = c.args.said.now.lines.items in
+    let new = c.ask_method.new.said.lines.items in
+    let kept : c.in_ok-ask_method.field-0 ≡ false = search rules in
     let below = slice_get_within P.methods m (method_of c.args.method.now) c.requires.is in
-    let adds = subst (λ k. Adds k c.args.said.now.lines.items c.ask_method.new.said.lines.items) c.in_ok-over.ensures.its c.in_ok-ask_method.ensures.adds in
-    λ e. bodies_woken P rel calls m c.args.said.now.lines.items c.ask_method.new.said.lines.items c.args.waits.now.bodies c.wake-3.new.waits c.callers_at-2.result.now
-    c.requires.calls (omega (arith, below, c.requires.call_rows)) (c.callers_at-2.ensures ∙ ap (callers_of_method calls) c.id.view_is) c.requires.bodies adds c.wake-3.ensures.woken
+    let adds = subst (λ k. Adds k old new) c.in_ok-over.ensures.its c.in_ok-ask_method.ensures.adds in
+    let asked = subst (λ b. IsPass P rel cells old new b) kept (subst (λ k. IsPass P rel (cells_in k method.requires_ (subsets_of (rel k))) old new c.in_ok-ask_method.field-0) c.in_ok-over.ensures.its c.in_ok-ask_method.ensures.asked) in
+    let own : method_calls (slice_get P.methods m) [] m ≡ false → AreBodiesSaid P rel (cells_with rel m (slice_get P.methods m)) new = λ quiet. subst (λ o. AreBodiesSaid P rel (cells_with rel m o) new) (sym c.requires.is) (bodies_of_said P rel cells new (said_quiet P rel m method.requires_ old new quiet asked)) in
+    λ e. bodies_woken P rel calls m old new c.args.waits.now.bodies c.sleep.new.self c.wake-3.new.waits c.callers_at-2.result.now
+    c.requires.calls (omega (arith, below, c.requires.call_rows)) (c.callers_at-2.ensures ∙ ap (callers_of_method calls) c.id.view_is) own c.requires.bodies adds
+    (subst (λ k. IsAsleep c.args.waits.now.bodies c.sleep.new.self k) c.id.view_is c.sleep.ensures.asleep) c.wake-3.ensures.woken
 
 -- What is said of the methods that override it.
 
@@ -98,14 +107,23 @@ ask_method-requires-clause-said c =
     subst (λ s. IsSaidOver P (rel_of s) (floor (rel_of s) lines) over.method over.table over.whole over.most) agrees.same
     (subst (λ k. IsSaidOver P (rel_of c.args.said.now.floors.sets.now) (floor (rel_of c.args.said.now.floors.sets.now) lines) k over.table over.whole over.most) (sym c.in_ok-over.ensures.its) (c.in_ok-over.ensures.said lines agrees.says))
 
+pub ask_method-requires-clause-quiet : goal.ask_method-requires-clause-quiet
+ask_method-requires-clause-quiet c = λ is.
+    let P = program_of c.args.asking.now.judged.now.program.now in
+    let calls = c.args.asking.now.calls.now in
+    let m = c.args.id in
+    let below = slice_get_within P.methods m (method_of c.args.method.now) c.requires.is in
+    let none = subst (λ k. has_method (callers_of_method calls k) k ≡ false) c.id.view_is (c.is_body_said-is_said.ensures.quiet is) in
+    let quiet = false_from_ne_true (counts_as_caller P (overs_at []) m m) (λ calls_it. both_ways (has_method (callers_of_method calls m) m) none (c.requires.calls m m (omega (arith, below, c.requires.call_rows)) calls_it)) in
+    subst (λ k. method_calls (slice_get P.methods k) [] k ≡ false) (sym c.in_ok-over.ensures.its) quiet
+
 pub ask_method-requires-clause-body : goal.ask_method-requires-clause-body
 ask_method-requires-clause-body c = λ is.
     let P = program_of c.args.asking.now.judged.now.program.now in
     let rel = rel_of c.args.asking.now.judged.now.sets.now in
     let lines = c.args.said.now.lines.items in
     let required = (method_of c.args.method.now).requires_ in
-    let asleep : slice_get c.args.waits.now.bodies c.args.id ≡ Some false =
-    subst (λ k. slice_get c.args.waits.now.bodies k ≡ Some false) c.id.view_is (c.has-is_said.ensures ∙ ap Some (not-true c.has-is_said.result is)) in
+    let asleep : slice_get c.args.waits.now.bodies c.args.id ≡ Some false = subst (λ k. slice_get c.args.waits.now.bodies k ≡ Some false) c.id.view_is (c.is_body_said-is_said.ensures.said is) in
     subst (λ k. AreBodiesSaid P rel (cells_in k required (subsets_of (rel k))) lines) (sym c.in_ok-over.ensures.its)
     (subst (λ o. AreBodiesSaid P rel (cells_with rel c.args.id o) lines) c.requires.is (c.requires.bodies c.args.id asleep))
 
