@@ -26,6 +26,7 @@ apart       classes as in fresh, and one by itself that has methods of these nam
 fields      classes in a line, each of which has a field (refused)
 sets_calls  methods that call each other, called at each part of eight locks
 sets_rise   methods that are called under more and more levels
+leaf_locks  classes that override one method and lock a field of their own each; it is called many times under a lock
 deep        classes in a line, where a loop calls the first one's method on an object of the last
 crowd       the same for objects of the last 60 classes and eight methods, called at eight places
 firsts      the same for an object of each class of the lower half
@@ -152,6 +153,12 @@ def waves(count: int) -> str:
     return MAIN + locked(methods=rising_methods()) + broom(count // 2, calls) + LAST_RISING
 
 
+def leaf_locks(count: int) -> str:
+    ends = "".join(f"class e{k} extends c0{{{HELD.format(k, '')}}}\n" for k in range(1, count))
+    calls = f"final X l=new X();final X x=new X();final c0 y=new c0();synchronized(l){{{'y.f(x);' * 12 * count}}}"
+    return f"class Main{{void main(){{{calls}}}}}\nclass X{{}}class L{{}}class c0{{void f(final X x){{}}}}\n{ends}"
+
+
 def threes(count: int) -> str:
     calls = ["x.g();" + f"x.s{k}();" * (k < WAVES) for k in reversed(range(count))]
     line = heirs(count, lambda k: "".join(f"void {name}(final X x){{{calls[k]}}}" for name in "fgh"))
@@ -276,5 +283,6 @@ FAMILIES: dict[str, Family] = {
     "fields": fields,
     "sets_calls": make_checked.sets_calls,
     "sets_rise": make_checked.sets_rise,
+    "leaf_locks": leaf_locks,
     **RUN_FAMILIES,
 }

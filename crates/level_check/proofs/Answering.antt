@@ -15,7 +15,7 @@ use Rattle.levels.specs.Walks.{Comes, Bad, body_visits}
 use Rattle.levels.specs.Contexts.{MayRun, Context, at_main, at_start, at_call, IsBadAt, IsOrdered, IsFirstBad}
 use Rattle.levels.proofs.GreatestLevels.{AreGreatest as AreAllGreatest, told_bad as bad_above, told_ordered}
 use Rattle.level_check.specs.declared.told.Callee.{Callee}
-use Rattle.level_check.specs.Told.{Calls, Wrong, itself, any_of, known_to, tell_call}
+use Rattle.level_check.specs.Told.{Calls, Wrong, itself, any_of, OriginOf, known_to, tell_call}
 use Rattle.level_check.specs.Origins.{AreOrigins}
 use Rattle.level_check.specs.declared.link.Link.{Link}
 use Rattle.level_check.specs.Greatest.{links_at, ReachedUnder, at_start as from_start, over_link, AreGreatest}
@@ -38,11 +38,11 @@ links_there [] c link has = absurd (nothing_there link has)
 links_there (row ∷ rows) zero link has = omega arith
 links_there (row ∷ rows) (suc c) link has = let r = links_there rows c link has in omega (arith, r)
 
-module _ (P : Program) (rel : ℕ → List PathData) (level : ℕ → ℕ) (rows : List (List ℕ)) (origins : List ℕ) (nearest : AreNearest P rows) (exact : AreOrigins rel (row_at rows) origins)
+module _ (P : Program) (rel : ℕ → List PathData) (level : ℕ → ℕ) (rows : List (List ℕ)) (origin : OriginOf) (nearest : AreNearest P rows) (exact : AreOrigins rel (row_at rows) origin)
     (led : (m k : ℕ) → LeadTo rows m k → MayRun P k m) where
   -- what is told of callees
   abbrev pub tell : Telling
-  tell = callee_told P rel level (row_at rows) origins
+  tell = callee_told P rel level (row_at rows) origin
 
   -- the method itself, or one that the rows lead to
   abbrev IsUnder : ℕ → ℕ → Type 0
@@ -69,12 +69,12 @@ module _ (P : Program) (rel : ℕ → List PathData) (level : ℕ → ℕ) (rows
   not_empty m k (further middle leads has) none = not_empty m middle leads none
 
   -- what a callee and the origins know together is what each that may run knows
-  known_under : (callee : ℕ) (known : ℕ → Held) → (S : Held) × (known ≡ of_set rel S) → (k : ℕ) → IsUnder callee k → held_in (rel k) (known_to (callee ∷ origins) known) ≡ known k
-  known_under callee known (S, is) k run = subst (λ f. held_in (rel k) (known_to (callee ∷ origins) f) ≡ f k) (sym is) (all_known rel (callee ∷ origins) k S (by_run run))
+  known_under : (callee : ℕ) (known : ℕ → Held) → (S : Held) × (known ≡ of_set rel S) → (k : ℕ) → IsUnder callee k → held_in (rel k) (known_to callee origin known) ≡ known k
+  known_under callee known (S, is) k run = subst (λ f. held_in (rel k) (known_to callee origin f) ≡ f k) (sym is) (all_known rel callee origin k S (by_run run))
     where
-      by_run : IsUnder callee k → (p : PathData) → has_path (rel k) p ≡ true → known_to (callee ∷ origins) (λ j. has_path (rel j)) p ≡ true
-      by_run (inl same) p own = own_known rel rows origins exact callee p (subst (λ z. has_path (rel z) p ≡ true) same own)
-      by_run (inr leads) p own = led_known rel rows origins exact callee k leads p own
+      by_run : IsUnder callee k → (p : PathData) → has_path (rel k) p ≡ true → known_to callee origin (λ j. has_path (rel j)) p ≡ true
+      by_run (inl same) p own = own_known rel rows origin exact callee p (subst (λ z. has_path (rel z) p ≡ true) same own)
+      by_run (inr leads) p own = led_known rel rows origin exact callee k leads p own
 
   -- the contexts of a callee: that of the method alone, or one of each that may run, with what it knows of the set
   abbrev AreContexts : Bool → ℕ → Held → ℕ → Type 0
@@ -86,18 +86,18 @@ module _ (P : Program) (rel : ℕ → List PathData) (level : ℕ → ℕ) (rows
 
   -- what the walk of a context calls has contexts
   arrives : (m : ℕ) (H : Held) (u : ℕ) (method : Method) (callee : ℕ) (known : ℕ → Held) (w : ℕ) (c : Callee) (K : Held) → Context P rel level m H u → slice_get P.methods m ≡ Some method
-      → Contains (body_visits P rel level method H 0) (Comes callee known w) → tell_call (row_at rows) origins callee known w ≡ Calls c K w → HasContexts c K (max u w)
+      → Contains (body_visits P rel level method H 0) (Comes callee known w) → tell_call (row_at rows) origin callee known w ≡ Calls c K w → HasContexts c K (max u w)
   arrives m H u method callee known w c K context is visit tells = by_row (length (row_at rows callee) == 0) tells
     where
       later : Contains (body_visits P rel level method H u) (Comes callee known (max u w))
       later = (body_shifts u P rel level method H).up callee known w visit
 
-      each : (k : ℕ) → IsUnder callee k → Context P rel level k (held_in (rel k) (known_to (callee ∷ origins) known)) (max u w)
+      each : (k : ℕ) → IsUnder callee k → Context P rel level k (held_in (rel k) (known_to callee origin known)) (max u w)
       each k run =
           subst (λ S. Context P rel level k S (max u w)) (sym (known_under callee known (body_named P rel level method H 0 callee known w visit) k run))
           (at_call method callee known (max u w) context is later (may_run callee k run))
 
-      by_row : (b : Bool) → (if b then Calls (itself callee) (known callee) w else Calls (any_of callee) (known_to (callee ∷ origins) known) w) ≡ Calls c K w → HasContexts c K (max u w)
+      by_row : (b : Bool) → (if b then Calls (itself callee) (known callee) w else Calls (any_of callee) (known_to callee origin known) w) ≡ Calls c K w → HasContexts c K (max u w)
       by_row true same =
           subst (λ z. HasContexts z K (max u w)) (ap told_callee same) (subst (λ S. Context P rel level callee S (max u w)) (ap told_set same) (at_call method callee known (max u w) context is later (inl refl)))
       by_row false same = subst (λ z. HasContexts z K (max u w)) (ap told_callee same) (subst (λ S. AreContexts false callee S (max u w)) (ap told_set same) each)
@@ -108,8 +108,8 @@ module _ (P : Program) (rel : ℕ → List PathData) (level : ℕ → ℕ) (rows
   -- so has what is told of a callee that has contexts
   told_contexts : (b : Bool) (m : ℕ) (H : Held) (u : ℕ) (c : Callee) (K : Held) (w : ℕ) → AreContexts b m H u → Contains (tell (record { method = m; alone = b }) H 0) (Calls c K w) → HasContexts c K (max u w)
   told_contexts true m H u c K w context has =
-      let body = told_body (row_at rows) origins P rel level (slice_get P.methods m) H 0 (Calls c K w) has in
-      let call = told_call (row_at rows) origins (body_visits P rel level body.0 H 0) c K w body.2 in
+      let body = told_body (row_at rows) origin P rel level (slice_get P.methods m) H 0 (Calls c K w) has in
+      let call = told_call (row_at rows) origin (body_visits P rel level body.0 H 0) c K w body.2 in
       arrives m H u body.0 call.callee call.known w c K context body.1 call.visit call.tells
   told_contexts false m H u c K w each has = elim (contains_cases (Calls (itself m) (held_in (rel m) H) 0) (Calls c K w) (map (λ k. Calls (any_of k) H 0) (row_at rows m)) has) as (λ _. HasContexts c K (max u w)) [
     | inl same ↦
@@ -235,10 +235,10 @@ module _ (P : Program) (rel : ℕ → List PathData) (level : ℕ → ℕ) (rows
           low : (w : ℕ) × (later ≡ max u w) × Contains (body_visits P rel level method H 0) (Comes callee known w)
           low = (body_shifts u P rel level method H).down callee known later has
 
-          told : Contains (tell (itself m) H 0) (tell_call (row_at rows) origins callee known low.0)
+          told : Contains (tell (itself m) H 0) (tell_call (row_at rows) origin callee known low.0)
           told =
-              subst (λ o. Contains (body_told P rel level (tell_call (row_at rows) origins) o H 0) (tell_call (row_at rows) origins callee known low.0)) (sym is)
-              (visit_told (row_at rows) origins (body_visits P rel level method H 0) (Comes callee known low.0) low.2)
+              subst (λ o. Contains (body_told P rel level (tell_call (row_at rows) origin) o H 0) (tell_call (row_at rows) origin callee known low.0)) (sym is)
+              (visit_told (row_at rows) origin (body_visits P rel level method H 0) (Comes callee known low.0) low.2)
 
           high : (v : ℕ) → max u low.0 ≤ v → later ≤ v
           high v above = subst (λ n. n ≤ v) (sym low.1) above
@@ -247,14 +247,14 @@ module _ (P : Program) (rel : ℕ → List PathData) (level : ℕ → ℕ) (rows
           alone_runs none (inl same) = same
           alone_runs none (inr leads) = absurd (not_empty callee k leads none)
 
-          by_row : (b : Bool) → (length (row_at rows callee) == 0) ≡ b → Contains (tell (itself m) H 0) (if b then Calls (itself callee) (known callee) low.0 else Calls (any_of callee) (known_to (callee ∷ origins) known) low.0)
+          by_row : (b : Bool) → (length (row_at rows callee) == 0) ≡ b → Contains (tell (itself m) H 0) (if b then Calls (itself callee) (known callee) low.0 else Calls (any_of callee) (known_to callee origin known) low.0)
               → (v : ℕ) × (later ≤ v) × G k (known k) v
           by_row true none has =
               let r = told_up (itself m) H u up (itself callee) (known callee) low.0 has in
               subst (λ z. (v : ℕ) × (later ≤ v) × G z (known z) v) (sym (alone_runs none (is_under callee k run))) (r.0, high r.0 r.1, r.2)
           by_row false some has =
-              let r = told_up (itself m) H u up (any_of callee) (known_to (callee ∷ origins) known) low.0 has in
-              let s = own_up callee k (known_to (callee ∷ origins) known) r.0 r.2 (is_under callee k run) in
+              let r = told_up (itself m) H u up (any_of callee) (known_to callee origin known) low.0 has in
+              let s = own_up callee k (known_to callee origin known) r.0 r.2 (is_under callee k run) in
               subst (λ S. (v : ℕ) × (later ≤ v) × G k S v) (known_under callee known (body_named P rel level method H 0 callee known low.0 low.2) k (is_under callee k run))
               (s.0, le_trans {n = later} {m = r.0} {k = s.0} (high r.0 r.1) s.1, s.2)
 
@@ -271,7 +271,7 @@ module _ (P : Program) (rel : ℕ → List PathData) (level : ℕ → ℕ) (rows
           → Contains (all_bads tell q.cells x) (record { method = m; place = place; class = class; under = v })
       bad_among m H at method place class v (c, cell, under) is has =
           let wrong : Contains (tell (itself m) H at) (Wrong place class v) =
-          subst (λ o. Contains (body_told P rel level (tell_call (row_at rows) origins) o H at) (Wrong place class v)) (sym is) (visit_told (row_at rows) origins (body_visits P rel level method H at) (Bad place class v) has) in
+          subst (λ o. Contains (body_told P rel level (tell_call (row_at rows) origin) o H at) (Wrong place class v)) (sym is) (visit_told (row_at rows) origin (body_visits P rel level method H at) (Bad place class v) has) in
           let own : Contains (tell cell.cell.callee (set_of cell.cell) at) (Wrong place class v) =
           subst (λ S. Contains (tell cell.cell.callee S at) (Wrong place class v)) (sym cell.set) (subst (λ n. Contains (tell n H at) (Wrong place class v)) (sym cell.of_callee) wrong) in
           subst (λ n. Contains (all_bads tell q.cells x) (record { method = n.method; place = place; class = class; under = v })) cell.of_callee (bad_in_all tell q.cells x c at cell.cell place class v cell.there under own)
@@ -298,8 +298,8 @@ module _ (P : Program) (rel : ℕ → List PathData) (level : ℕ → ℕ) (rows
 
           by_method : (m : ℕ) (H : Held) (from : ℕ) → b.method ≡ m → G m H from → Contains (tell (itself m) H from) (Wrong b.place b.class b.under) → IsFirstBad P rel level b.method b.class b.under
           by_method m H from of_method up told =
-              let body = told_body (row_at rows) origins P rel level (slice_get P.methods m) H from (Wrong b.place b.class b.under) told in
-              let visit = told_bad (row_at rows) origins (body_visits P rel level body.0 H from) b.place b.class b.under body.2 in
+              let body = told_body (row_at rows) origin P rel level (slice_get P.methods m) H from (Wrong b.place b.class b.under) told in
+              let visit = told_bad (row_at rows) origin (body_visits P rel level body.0 H from) b.place b.class b.under body.2 in
               record {
                 place = b.place;
                 bad = (body.0, H, from, subst (λ n. Context P rel level n H from) (sym of_method) (g_context m H from up), ap (slice_get P.methods) of_method ∙ body.1, visit);
@@ -329,13 +329,13 @@ if_ok : {A E : Type 0} (F G : A → Type 0) (r : Result A E) → ((x : A) → F 
 if_ok F G (Ok x) each fact = each x fact
 if_ok F G (Err e) each fact = tt
 
-pub answered_by : {E : Type 0} (P : Program) (rel : ℕ → List PathData) (level : ℕ → ℕ) (rows : List (List ℕ)) (origins : List ℕ) → AreNearest P rows → AreOrigins rel (row_at rows) origins → ((m k : ℕ) → LeadTo rows m k → MayRun P k m)
-    → (start : Queue) → AreFirstCells (P.main ∷ runs_of P.classes) start → (q : Queue) (links : List (List Link)) → AreAllFollowed (callee_told P rel level (row_at rows) origins) start q links → (x : List ℕ) → AreGreatest links q.levels x
+pub answered_by : {E : Type 0} (P : Program) (rel : ℕ → List PathData) (level : ℕ → ℕ) (rows : List (List ℕ)) (origin : OriginOf) → AreNearest P rows → AreOrigins rel (row_at rows) origin → ((m k : ℕ) → LeadTo rows m k → MayRun P k m)
+    → (start : Queue) → AreFirstCells (P.main ∷ runs_of P.classes) start → (q : Queue) (links : List (List Link)) → AreAllFollowed (callee_told P rel level (row_at rows) origin) start q links → (x : List ℕ) → AreGreatest links q.levels x
     → (read : List ℕ) → read ≡ x → (r : Result (Option BadOne) E)
-    → IfOk r (λ o. o ≡ firsts None (all_bads (callee_told P rel level (row_at rows) origins) q.cells read)) → IfOk r (λ o. MatchOption o (IsOrdered P rel level) (λ b. IsFirstBad P rel level b.method b.class b.under))
-answered_by P rel level rows origins nearest exact led start begun q links followed x greatest read same r told =
-    if_ok (λ o. o ≡ firsts None (all_bads (callee_told P rel level (row_at rows) origins) q.cells read)) (λ o. MatchOption o (IsOrdered P rel level) (λ b. IsFirstBad P rel level b.method b.class b.under)) r
-    (λ o is. answered P rel level rows origins nearest exact led start begun q links followed x greatest o (is ∙ ap (λ y. firsts None (all_bads (callee_told P rel level (row_at rows) origins) q.cells y)) same)) told
+    → IfOk r (λ o. o ≡ firsts None (all_bads (callee_told P rel level (row_at rows) origin) q.cells read)) → IfOk r (λ o. MatchOption o (IsOrdered P rel level) (λ b. IsFirstBad P rel level b.method b.class b.under))
+answered_by P rel level rows origin nearest exact led start begun q links followed x greatest read same r told =
+    if_ok (λ o. o ≡ firsts None (all_bads (callee_told P rel level (row_at rows) origin) q.cells read)) (λ o. MatchOption o (IsOrdered P rel level) (λ b. IsFirstBad P rel level b.method b.class b.under)) r
+    (λ o is. answered P rel level rows origin nearest exact led start begun q links followed x greatest o (is ∙ ap (λ y. firsts None (all_bads (callee_told P rel level (row_at rows) origin) q.cells y)) same)) told
 
 -- The end of the search.
 

@@ -6,10 +6,10 @@ pub mod ToldLemmas
 pub mod Light
 -- Lemmas on walks under other levels, on cells that are reached, and on the first of bad ones.
 pub mod Shifts
+pub mod Known
 pub mod Named
 pub mod Through
 pub mod Tells
-pub mod Missing
 pub mod Beginnings
 pub mod CellLemmas
 pub mod Adding

@@ -1,7 +1,6 @@
 -- What is known at a call: of one set each method knows those of its relevant paths that are in it.
 use Rattle.std.proofs.Common.{◌≡◌, inl, inr, ℕ, ◌+◌, ◌&&◌, ◌||◌, Bool, true, false, List, [], ◌∷◌, ◌++◌, Some, None, refl, sym, ap, ◌∙◌}
 use Rattle.std.specs.Prelude.{Contains, nat_lt, max, if◌then◌else◌}
-use Rattle.std.specs.List.{list_any}
 use Rattle.std.proofs.lemmas.Bool.{or_left, or_right}
 use Rattle.std.proofs.lemmas.List.Elements.{Contains-append_cases}
 use Rattle.base.proofs.Lists.{contains_cases}
@@ -18,8 +17,9 @@ use Rattle.rules.specs.Rules.{held_in}
 use Rattle.rules.specs.Search.{row_at}
 use Rattle.levels.specs.SlotTypes.{slot_types}
 use Rattle.levels.specs.Walks.{LevelVisit, Comes, Bad, lock_class, syncs_in, call_visits, expr_visits, exprs_visits, sync_visits, visits, block_visits, body_visits}
-use Rattle.level_check.specs.Told.{known_to}
+use Rattle.level_check.specs.Told.{OriginOf, known_to_origin, known_to}
 use Rattle.level_check.specs.Origins.{AreOrigins}
+use Rattle.level_check.proofs.Known.{known_and}
 use Rattle.level_check.proofs.Shifts.{no_visit, visit_known, is_call}
 
 -- what each method knows of a set
@@ -114,36 +114,27 @@ module _ (P : Program) (rel : ℕ → List PathData) where
 
 -- What a callee and the origins know together is what each that may run needs.
 
-one_more : (x b y : Bool) → ((x && b) || (y && b)) ≡ ((x || y) && b)
-one_more true true y = refl
-one_more true false true = refl
-one_more true false false = refl
-one_more false b y = refl
-
-any_and : (f : ℕ → Bool) (b : Bool) (ms : List ℕ) → list_any (λ k. f k && b) ms ≡ (list_any f ms && b)
-any_and f b [] = refl
-any_and f b (m ∷ ms) = ap (λ x. (f m && b) || x) (any_and f b ms) ∙ one_more (f m) b (list_any f ms)
-
 module _ (rel : ℕ → List PathData) where
-  -- where some of these methods know each relevant path of a method, what they know together of a set is what the method knows of it
-  pub all_known : (ms : List ℕ) (k : ℕ) (S : Held) → ((p : PathData) → has_path (rel k) p ≡ true → known_to ms (λ j. has_path (rel j)) p ≡ true) → held_in (rel k) (known_to ms (of_set rel S)) ≡ held_in (rel k) S
-  all_known ms k S known = λ i p. at p i
+  -- where a method or its origin knows each relevant path of another method, what they know of a set is what that method knows of it
+  pub all_known : (m : ℕ) (origin : OriginOf) (k : ℕ) (S : Held) → ((p : PathData) → has_path (rel k) p ≡ true → known_to m origin (λ j. has_path (rel j)) p ≡ true)
+      → held_in (rel k) (known_to m origin (of_set rel S)) ≡ held_in (rel k) S
+  all_known m origin k S known = λ i p. at p i
     where
       by_own : (own others held : Bool) → (own ≡ true → others ≡ true) → (own && (others && held)) ≡ (own && held)
       by_own true others held is = ap (λ b. b && held) (is refl)
       by_own false others held is = refl
 
-      at : (p : PathData) → held_in (rel k) (known_to ms (of_set rel S)) p ≡ held_in (rel k) S p
-      at p = ap (λ b. has_path (rel k) p && b) (any_and (λ j. has_path (rel j) p) (S p) ms) ∙ by_own (has_path (rel k) p) (list_any (λ j. has_path (rel j) p) ms) (S p) (known p)
+      at : (p : PathData) → held_in (rel k) (known_to m origin (of_set rel S)) p ≡ held_in (rel k) S p
+      at p = ap (λ b. has_path (rel k) p && b) (known_and (λ j. has_path (rel j)) S m origin p) ∙ by_own (has_path (rel k) p) (known_to m origin (λ j. has_path (rel j)) p) (S p) (known p)
 
-  module _ (rows : List (List ℕ)) (origins : List ℕ) (exact : AreOrigins rel (row_at rows) origins) where
-    pub own_known : (m : ℕ) (p : PathData) → has_path (rel m) p ≡ true → known_to (m ∷ origins) (λ j. has_path (rel j)) p ≡ true
-    own_known m p is = or_left (has_path (rel m) p) (list_any (λ j. has_path (rel j) p) origins) is
+  module _ (rows : List (List ℕ)) (origin : OriginOf) (exact : AreOrigins rel (row_at rows) origin) where
+    pub own_known : (m : ℕ) (p : PathData) → has_path (rel m) p ≡ true → known_to m origin (λ j. has_path (rel j)) p ≡ true
+    own_known m p is = or_left (has_path (rel m) p) (known_to_origin (origin p) (λ j. has_path (rel j)) p) is
 
-    pub led_known : (m k : ℕ) → LeadTo rows m k → (p : PathData) → has_path (rel k) p ≡ true → known_to (m ∷ origins) (λ j. has_path (rel j)) p ≡ true
+    pub led_known : (m k : ℕ) → LeadTo rows m k → (p : PathData) → has_path (rel k) p ≡ true → known_to m origin (λ j. has_path (rel j)) p ≡ true
     led_known m k (near has) p is = exact m k p has is
     led_known m k (further middle leads has) p is = by_middle (has_path (rel middle) p) refl (λ own. led_known m middle leads p own) (exact middle k p has is)
       where
-        by_middle : (b : Bool) → has_path (rel middle) p ≡ b → (has_path (rel middle) p ≡ true → known_to (m ∷ origins) (λ j. has_path (rel j)) p ≡ true) → (b || list_any (λ j. has_path (rel j) p) origins) ≡ true → known_to (m ∷ origins) (λ j. has_path (rel j)) p ≡ true
+        by_middle : (b : Bool) → has_path (rel middle) p ≡ b → (has_path (rel middle) p ≡ true → known_to m origin (λ j. has_path (rel j)) p ≡ true) → (b || known_to_origin (origin p) (λ j. has_path (rel j)) p) ≡ true → known_to m origin (λ j. has_path (rel j)) p ≡ true
         by_middle true own earlier known = earlier own
-        by_middle false other earlier known = or_right (has_path (rel m) p) (list_any (λ j. has_path (rel j) p) origins) known
+        by_middle false other earlier known = or_right (has_path (rel m) p) (known_to_origin (origin p) (λ j. has_path (rel j)) p) known

@@ -12,7 +12,7 @@ use Rattle.core_program.specs.declared.program.CoreMethod.{CoreMethod}
 use Rattle.core_program.specs.Views.{method_of}
 use Rattle.levels.specs.Walks.{LevelVisit, Comes, Bad, body_visits}
 use Rattle.level_check.specs.declared.told.Callee.{Callee}
-use Rattle.level_check.specs.Told.{ToldLevel, Calls, Wrong, itself, any_of, known_to, tell_call, visit_tells, told}
+use Rattle.level_check.specs.Told.{ToldLevel, Calls, Wrong, itself, any_of, OriginOf, known_to, tell_call, visit_tells, told}
 use Rattle.level_check.specs.Bodies.{body_told}
 
 pub nothing_there : {A : Type 0} (v : A) → Contains [] v → ⊥
@@ -63,19 +63,19 @@ abbrev pub wrong_under : ToldLevel → ℕ
 wrong_under (Calls k K w) = 0
 wrong_under (Wrong p c u) = u
 
-module _ (over : ℕ → List ℕ) (origins : List ℕ) where
+module _ (over : ℕ → List ℕ) (origin : OriginOf) where
   -- a call tells of a callee, under its own level
-  call_is_call : (m : ℕ) (known : ℕ → Held) (u : ℕ) → told_is_call (tell_call over origins m known u) ≡ true
+  call_is_call : (m : ℕ) (known : ℕ → Held) (u : ℕ) → told_is_call (tell_call over origin m known u) ≡ true
   call_is_call m known u = by_row (length (over m) == 0)
     where
-      by_row : (b : Bool) → told_is_call (if b then Calls (itself m) (known m) u else Calls (any_of m) (known_to (m ∷ origins) known) u) ≡ true
+      by_row : (b : Bool) → told_is_call (if b then Calls (itself m) (known m) u else Calls (any_of m) (known_to m origin known) u) ≡ true
       by_row true = refl
       by_row false = refl
 
-  call_level : (m : ℕ) (known : ℕ → Held) (u : ℕ) → told_level (tell_call over origins m known u) ≡ u
+  call_level : (m : ℕ) (known : ℕ → Held) (u : ℕ) → told_level (tell_call over origin m known u) ≡ u
   call_level m known u = by_row (length (over m) == 0)
     where
-      by_row : (b : Bool) → told_level (if b then Calls (itself m) (known m) u else Calls (any_of m) (known_to (m ∷ origins) known) u) ≡ u
+      by_row : (b : Bool) → told_level (if b then Calls (itself m) (known m) u else Calls (any_of m) (known_to m origin known) u) ≡ u
       by_row true = refl
       by_row false = refl
 
@@ -84,37 +84,37 @@ module _ (over : ℕ → List ℕ) (origins : List ℕ) where
     pub callee : ℕ
     pub known : ℕ → Held
     pub visit : Contains vs (Comes callee known w)
-    pub tells : tell_call over origins callee known w ≡ Calls k K w
+    pub tells : tell_call over origin callee known w ≡ Calls k K w
 
-  pub told_call : (vs : List LevelVisit) (k : Callee) (K : Held) (w : ℕ) → Contains (told (tell_call over origins) vs) (Calls k K w) → IsCall vs k K w
-  told_call vs k K w has = let r = mapped_from (visit_tells (tell_call over origins)) vs (Calls k K w) has in by_visit r.0 r.1 r.2
+  pub told_call : (vs : List LevelVisit) (k : Callee) (K : Held) (w : ℕ) → Contains (told (tell_call over origin) vs) (Calls k K w) → IsCall vs k K w
+  told_call vs k K w has = let r = mapped_from (visit_tells (tell_call over origin)) vs (Calls k K w) has in by_visit r.0 r.1 r.2
     where
-      by_visit : (v : LevelVisit) → Contains vs v → visit_tells (tell_call over origins) v ≡ Calls k K w → IsCall vs k K w
+      by_visit : (v : LevelVisit) → Contains vs v → visit_tells (tell_call over origin) v ≡ Calls k K w → IsCall vs k K w
       by_visit (Comes m known u) there same =
           let level : u ≡ w = sym (call_level m known u) ∙ ap told_level same in
           record {
             callee = m;
             known = known;
             visit = subst (λ n. Contains vs (Comes m known n)) level there;
-            tells = subst (λ n. tell_call over origins m known n ≡ Calls k K w) level same;
+            tells = subst (λ n. tell_call over origin m known n ≡ Calls k K w) level same;
           }
       by_visit (Bad p c u) there same = absurd (let e : false ≡ true = ap told_is_call same in cc)
 
   -- a visit is told
-  pub visit_told : (vs : List LevelVisit) (v : LevelVisit) → Contains vs v → Contains (told (tell_call over origins) vs) (visit_tells (tell_call over origins) v)
-  visit_told vs v has = mapped_to (visit_tells (tell_call over origins)) vs v has
+  pub visit_told : (vs : List LevelVisit) (v : LevelVisit) → Contains vs v → Contains (told (tell_call over origin) vs) (visit_tells (tell_call over origin) v)
+  visit_told vs v has = mapped_to (visit_tells (tell_call over origin)) vs v has
 
   -- what is told as bad is a bad visit
-  pub told_bad : (vs : List LevelVisit) (p c u : ℕ) → Contains (told (tell_call over origins) vs) (Wrong p c u) → Contains vs (Bad p c u)
-  told_bad vs p c u has = let r = mapped_from (visit_tells (tell_call over origins)) vs (Wrong p c u) has in by_visit r.0 r.1 r.2
+  pub told_bad : (vs : List LevelVisit) (p c u : ℕ) → Contains (told (tell_call over origin) vs) (Wrong p c u) → Contains vs (Bad p c u)
+  told_bad vs p c u has = let r = mapped_from (visit_tells (tell_call over origin)) vs (Wrong p c u) has in by_visit r.0 r.1 r.2
     where
-      by_visit : (v : LevelVisit) → Contains vs v → visit_tells (tell_call over origins) v ≡ Wrong p c u → Contains vs (Bad p c u)
+      by_visit : (v : LevelVisit) → Contains vs v → visit_tells (tell_call over origin) v ≡ Wrong p c u → Contains vs (Bad p c u)
       by_visit (Comes m known w) there same = absurd (let e : true ≡ false = sym (call_is_call m known w) ∙ ap told_is_call same in cc)
       by_visit (Bad q d v) there same = subst (λ x. Contains vs x) (λ i. Bad (wrong_place (same i)) (wrong_class (same i)) (wrong_under (same i))) there
 
   -- where something is told there is the method
-  pub told_body : (P : Program) (rel : ℕ → List PathData) (level : ℕ → ℕ) (o : Option Method) (H : Held) (u : ℕ) (t : ToldLevel) → Contains (body_told P rel level (tell_call over origins) o H u) t
-      → (method : Method) × (o ≡ Some method) × Contains (told (tell_call over origins) (body_visits P rel level method H u)) t
+  pub told_body : (P : Program) (rel : ℕ → List PathData) (level : ℕ → ℕ) (o : Option Method) (H : Held) (u : ℕ) (t : ToldLevel) → Contains (body_told P rel level (tell_call over origin) o H u) t
+      → (method : Method) × (o ≡ Some method) × Contains (told (tell_call over origin) (body_visits P rel level method H u)) t
   told_body P rel level None H u t has = absurd (nothing_there t has)
   told_body P rel level (Some method) H u t has = (method, refl, has)
 

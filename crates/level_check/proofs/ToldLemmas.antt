@@ -15,7 +15,7 @@ use Rattle.rules.specs.Effect.{after_stmt, held_under}
 use Rattle.rules.specs.Near.{rel_of}
 use Rattle.levels.specs.Walks.{level_in, LevelVisit, Comes, Bad, call_visits, syncs_in, syncs_in_each, lock_class, expr_visits, exprs_visits, visits, block_visits, sync_visits}
 use Rattle.level_check.specs.declared.walk.Walk.{Walk}
-use Rattle.level_check.specs.Told.{ToldLevel, Calls, Wrong, CallTold, itself, any_of, known_to, tell_call, call_in, visit_tells, told, told_bad, expr_told, exprs_told, stmt_told, block_told}
+use Rattle.level_check.specs.Told.{ToldLevel, Calls, Wrong, CallTold, itself, any_of, OriginOf, known_to, tell_call, call_in, visit_tells, told, told_bad, expr_told, exprs_told, stmt_told, block_told}
 
 pub told_append : (call : CallTold) (xs ys : List LevelVisit) → told call (xs ++ ys) ≡ told call xs ++ told call ys
 told_append call xs ys = map-append (visit_tells call) xs ys
@@ -122,9 +122,9 @@ module _ (w : Walk) where
       ++ visits (program_of w.program.now) (rel_of w.sets.now) (level_in w.levels.now) w.slots.now (stmt_of d2) (sym place_is i) H u))) one other last
 
 -- a call of a method that others override
-pub any_told : (over : ℕ → List ℕ) (origins row : List ℕ) (m : ℕ) (known : ℕ → Held) (K : Held) (u : ℕ) → row ≡ over m → (length row == 0) ≡ false → K ≡ known_to (m ∷ origins) known → Calls (any_of m) K u ≡ tell_call over origins m known u
-any_told over origins row m known K u is some same =
-    ap (λ (f : Held). Calls (any_of m) f u) same ∙ sym (ap (λ b. if b then Calls (itself m) (known m) u else Calls (any_of m) (known_to (m ∷ origins) known) u) (ap (λ l. length l == 0) (sym is) ∙ some))
+pub any_told : (over : ℕ → List ℕ) (origin : OriginOf) (row : List ℕ) (m : ℕ) (known : ℕ → Held) (K : Held) (u : ℕ) → row ≡ over m → (length row == 0) ≡ false → K ≡ known_to m origin known → Calls (any_of m) K u ≡ tell_call over origin m known u
+any_told over origin row m known K u is some same =
+    ap (λ (f : Held). Calls (any_of m) f u) same ∙ sym (ap (λ b. if b then Calls (itself m) (known m) u else Calls (any_of m) (known_to m origin known) u) (ap (λ l. length l == 0) (sym is) ∙ some))
 
 -- Places.
 

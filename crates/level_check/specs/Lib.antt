@@ -3,8 +3,10 @@ pub mod Greatest
 pub mod Rises
 -- What the contracts of the walk in code cite: what a walk has seen, with what may run at each call.
 pub mod Told
--- What the calls of methods that others override cite: the methods that know paths which those that they override don't.
+-- What the calls of methods that others override cite: methods that know paths which those that they override don't (Origins), and what held
+-- paths are called in callees (Passed).
 pub mod Origins
+pub mod Passed
 -- What the search for the first bad `synchronized` cites, in this order: what walks tell (Bodies), the cells that are reached over
 -- calls (Cells), and which bad one comes first (Bad).
 pub mod Bodies

@@ -1,6 +1,7 @@
 -- What a walk in code tells: for each call what may run there, with the paths that are known.
-use Rattle.std.specs.Prelude.{ℕ, ◌==◌, true, false, List, [], ◌∷◌, length, map, nat_lt, if◌then◌else◌}
-use Rattle.std.specs.List.{list_any}
+use Rattle.std.specs.Prelude.{ℕ, ◌==◌, ◌||◌, true, false, List, [], ◌∷◌, length, map, nat_lt, Option, Some, None, if◌then◌else◌}
+use Rattle.std.specs.Map.{lookup}
+use Rattle.paths.specs.Paths.{PathData, path_eq}
 use Rattle.algebra.specs.HeldPaths.{Held, has_path}
 use Rattle.core_program.specs.Views.{program_of}
 use Rattle.core_program.specs.Core.{Expr, Exprs, Stmt, Stmts}
@@ -25,18 +26,31 @@ itself m = record { method = m; alone = true }
 abbrev pub any_of : ℕ → Callee
 any_of m = record { method = m; alone = false }
 
--- the paths that one of these methods knows
-abbrev pub known_to : List ℕ → (ℕ → Held) → Held
-known_to ms known p = list_any (λ k. known k p) ms
+-- the origin of a path: a method that knows it, where there is one
+abbrev pub OriginOf : Type 0
+OriginOf = PathData → Option ℕ
+
+-- the origin that a table has for a path
+abbrev pub origin_in : List (PathData × ℕ) → OriginOf
+origin_in entries p = lookup (path_eq p) entries
+
+-- what the origin of a path knows of it
+abbrev pub known_to_origin : Option ℕ → (ℕ → Held) → Held
+known_to_origin None known p = false
+known_to_origin (Some k) known p = known k p
+
+-- what a method knows of a path, or else the path's origin
+abbrev pub known_to : ℕ → OriginOf → (ℕ → Held) → Held
+known_to m origin known p = known m p || known_to_origin (origin p) known p
 
 -- what a call tells of its callee, of what is known to each method, and of its level
 abbrev pub CallTold : Type 0
 CallTold = ℕ → (ℕ → Held) → ℕ → ToldLevel
 
--- where these methods override others next: the callee alone where none overrides it; else any that may run, with all that the callee and the origins
--- of paths know
-abbrev pub tell_call : (over : ℕ → List ℕ) (origins : List ℕ) → CallTold
-tell_call over origins m known under = if length (over m) == 0 then Calls (itself m) (known m) under else Calls (any_of m) (known_to (m ∷ origins) known) under
+-- where these methods override others next: the callee alone where none overrides it; else any that may run, with each path that the callee or the
+-- path's origin knows
+abbrev pub tell_call : (over : ℕ → List ℕ) (origin : OriginOf) → CallTold
+tell_call over origin m known under = if length (over m) == 0 then Calls (itself m) (known m) under else Calls (any_of m) (known_to m origin known) under
 
 -- what a visit tells
 abbrev pub visit_tells : CallTold → LevelVisit → ToldLevel
@@ -58,7 +72,7 @@ told_level_of (seen.Bad place class under) = Wrong place class under
 
 -- what a call tells in this walk
 abbrev pub call_in : Walk → CallTold
-call_in w = tell_call (row_at w.over.now) w.origins.now
+call_in w = tell_call (row_at w.over.now) (origin_in w.origins.now.entries)
 
 -- what the parts of a body tell in this walk
 abbrev pub expr_told : Walk → Expr → Held → ℕ → List ToldLevel

@@ -11,6 +11,7 @@ ghost use Rattle.levels.specs.SlotTypes.{AreMarked};
 ghost use Rattle.levels.specs.Walks.{level_in};
 ghost use Rattle.levels.specs.Contexts.{IsOrdered, IsFirstBad};
 ghost use Rattle.levels.specs.Circles.{Circle};
+ghost use Rattle.level_check.specs.Told.{origin_in};
 ghost use Rattle.level_check.specs.Origins.{AreOrigins};
 
 use crate::bad::Bad;
@@ -30,7 +31,7 @@ use std::alloc::{AllocError as NoMemory, Global};
 ///
 /// Only contexts that are reached are looked at, each once for its calls and once for what is bad at its greatest level: a method with n
 /// relevant paths has 2 ^ n at most. A call is looked at again only where the level of its context rose, which it does at most once
-/// for each level of a class. A walk takes the size of the body, for each call with the relevant paths of the callee, and of the origins of paths
+/// for each level of a class. A walk takes the size of the body, for each call with the relevant paths of the callee, or with the call's arguments
 /// where it is overridden, times the paths that are held. What is called that others override is a context more, from which those that override it
 /// next are reached, and from these the others.
 pub fn ordered(
@@ -92,7 +93,7 @@ fn found(
         program,
         sets,
         over: &over,
-        origins: origins.as_slice(),
+        origins: &origins,
         levels: levels.of.as_slice(),
     };
     found_by(alloc, &judged)
@@ -102,7 +103,7 @@ fn found(
 fn found_by(alloc: Global, judged: &Judged<'_>) -> Result<Option<Bad>, NoMemory>
     requires typed { IsTyped (program_of judged.now.program.now) }
     requires over { AreNearest (program_of judged.now.program.now) judged.now.over.now }
-    requires origins { AreOrigins (rel_of judged.now.sets.now) (row_at judged.now.over.now) judged.now.origins.now }
+    requires origins { AreOrigins (rel_of judged.now.sets.now) (row_at judged.now.over.now) (origin_in judged.now.origins.now.entries) }
     ensures { IfOk result (λ found. MatchOption found
         (IsOrdered (program_of judged.now.program.now) (rel_of judged.now.sets.now) (level_in judged.now.levels.now))
         (λ bad. IsFirstBad (program_of judged.now.program.now) (rel_of judged.now.sets.now) (level_in judged.now.levels.now) bad.method bad.class bad.under)) }

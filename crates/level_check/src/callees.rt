@@ -1,18 +1,18 @@
 //! What may run at a call, and the held paths that are known there.
-ghost use Rattle.std.specs.Prelude.{◌≡◌, ◌∷◌, [], ◌++◌, ◌||◌, map, IfOk, OnOk};
+ghost use Rattle.std.specs.Prelude.{◌≡◌, ◌∷◌, [], ◌++◌, filter, map, IfOk, OnOk};
 ghost use Rattle.algebra.specs.HeldPaths.{has_path};
 ghost use Rattle.core_program.specs.Locks.{path_of};
 ghost use Rattle.core_program.specs.Views.{program_of, expr_of, exprs_from};
-ghost use Rattle.paths.specs.Paths.{PathData, path_eq};
 ghost use Rattle.rules.specs.Effect.{held_under};
 ghost use Rattle.rules.specs.Mentions.{paths_of};
 ghost use Rattle.rules.specs.Near.{rel_of};
-ghost use Rattle.level_check.specs.Told.{Calls, known_to, told_level_of};
+ghost use Rattle.level_check.specs.Told.{Calls, origin_in, known_to_origin, known_to, told_level_of};
 
+use crate::passed::names_in_callee;
 use crate::told::{Callee, Seen};
 use crate::walk::Walk;
 use algebra::has;
-use effects::{Called, held_under};
+use effects::Called;
 use paths::{MethodId, Path};
 use std::alloc::AllocError as NoMemory;
 
@@ -35,58 +35,50 @@ pub(crate) fn add_callee(
     Ok(())
 }
 
-/// The held paths that the callee or an origin knows at a call.
+/// The held paths that the callee or their origins know at a call, in the order of paths.
 pub(crate) fn known_to_any(
     walk: &Walk<'_>,
     call: &Called<'_>,
     held: &[Path],
 ) -> Result<Vec<Path>, NoMemory>
     ensures { IfOk result (λ known. let P = program_of walk.now.program.now in
-        has_path known.items ≡ known_to (call.now.callee ∷ walk.now.origins.now) (λ k. held_under (rel_of walk.now.sets.now k) (path_of P (expr_of call.now.receiver.now)) (paths_of P (exprs_from call.now.args.now)) (has_path held.now))) }
+        has_path known.items ≡ known_to call.now.callee (origin_in walk.now.origins.now.entries) (λ k. held_under (rel_of walk.now.sets.now k) (path_of P (expr_of call.now.receiver.now)) (paths_of P (exprs_from call.now.args.now)) (has_path held.now))) }
 {
-    let mut known = held_under(walk.alloc, walk.program, walk.sets, call, held)?;
-    for origin in walk.origins {
-        let other = Called {
-            receiver: call.receiver,
-            callee: *origin,
-            args: call.args,
-        };
-        add_known(walk, &other, held, &mut known)?;
+    if held.is_empty() {
+        return Ok(Vec::new(walk.alloc));
+    }
+    let names = names_in_callee(walk.alloc, walk.program, call, held)?;
+    let mut known = known_among(walk, call.callee, names.as_slice())?;
+    known.sort_unstable();
+    Ok(known)
+}
+
+/// Those of these paths that a method or their origins know.
+fn known_among(walk: &Walk<'_>, method: MethodId, paths: &[Path]) -> Result<Vec<Path>, NoMemory>
+    ensures { IfOk result (λ known. known.items ≡ filter (known_to method (origin_in walk.now.origins.now.entries) (λ k. has_path (rel_of walk.now.sets.now k))) paths.now) }
+{
+    let mut known = Vec::new(walk.alloc);
+    for path in paths {
+        if is_known(walk, method, path) {
+            known.push(path.copy())?;
+        }
     }
     Ok(known)
 }
 
-/// Adds the held paths that the callee knows at a call.
-fn add_known(
-    walk: &Walk<'_>,
-    call: &Called<'_>,
-    held: &[Path],
-    known: &mut Vec<Path>,
-) -> Result<(), NoMemory>
-    ensures { OnOk result (let P = program_of walk.now.program.now in
-        (p : PathData) → has_path known.new.items p ≡ (has_path known.old.items p || held_under (rel_of walk.now.sets.now call.now.callee) (path_of P (expr_of call.now.receiver.now)) (paths_of P (exprs_from call.now.args.now)) (has_path held.now) p)) }
+/// Whether a method or the path's origin knows the path.
+fn is_known(walk: &Walk<'_>, method: MethodId, path: &Path) -> bool
+    ensures { result ≡ known_to method (origin_in walk.now.origins.now.entries) (λ k. has_path (rel_of walk.now.sets.now k)) path.now }
 {
-    let more = held_under(walk.alloc, walk.program, walk.sets, call, held)?;
-    add_missing(more.as_slice(), known)
+    has(walk.sets.rel(method), path) || is_known_to_origin(walk, path)
 }
 
-/// Adds those of these paths that aren't there.
-fn add_missing(more: &[Path], known: &mut Vec<Path>) -> Result<(), NoMemory>
-    ensures { OnOk result ((p : PathData) → has_path known.new.items p ≡ (has_path known.old.items p || has_path more.now p)) }
+/// Whether the path's origin knows it.
+fn is_known_to_origin(walk: &Walk<'_>, path: &Path) -> bool
+    ensures { result ≡ known_to_origin (origin_in walk.now.origins.now.entries path.now) (λ k. has_path (rel_of walk.now.sets.now k)) path.now }
 {
-    for path in more {
-        add_path(path, known)?;
+    match walk.origins.get(path) {
+        Some(origin) => has(walk.sets.rel(*origin), path),
+        None => false,
     }
-    Ok(())
-}
-
-/// Adds a path, where it isn't there.
-fn add_path(path: &Path, known: &mut Vec<Path>) -> Result<(), NoMemory>
-    ensures { OnOk result ((p : PathData) → has_path known.new.items p ≡ (has_path known.old.items p || path_eq path.now p)) }
-{
-    if has(known.as_slice(), path) {
-        return Ok(());
-    }
-    known.push(path.copy())?;
-    Ok(())
 }

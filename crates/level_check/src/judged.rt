@@ -17,6 +17,7 @@ use crate::told::{Callee, Seen};
 use crate::walk::Walk;
 use core_program::{CoreMethod, CoreProgram};
 use effects::{among, copied};
+use indexmap::IndexMap;
 use paths::{MethodId, Path};
 use rules::{NearestMethods, RelevantSets};
 use std::alloc::{AllocError as NoMemory, Global};
@@ -27,7 +28,7 @@ pub(crate) struct Judged<'a> {
     pub(crate) program: &'a CoreProgram,
     pub(crate) sets: &'a RelevantSets,
     pub(crate) over: &'a NearestMethods,
-    pub(crate) origins: &'a [MethodId],
+    pub(crate) origins: &'a IndexMap<Path, MethodId>,
     pub(crate) levels: &'a [u32],
 }
 

@@ -17,6 +17,7 @@ mod lines;
 mod link;
 mod names;
 mod origins;
+mod passed;
 mod raise;
 mod reader;
 mod rising;

@@ -6,6 +6,7 @@ ghost use Rattle.core_program.specs.Views.{program_of};
 ghost use Rattle.levels.specs.Walks.{level_in, class_of_slot, lock_class};
 
 use core_program::{CoreProgram, CoreType};
+use indexmap::IndexMap;
 use paths::{ClassId, FieldId, MethodId, Path};
 use rules::{NearestMethods, RelevantSets};
 use std::alloc::Global;
@@ -17,7 +18,7 @@ pub struct Walk<'a> {
     pub program: &'a CoreProgram,
     pub sets: &'a RelevantSets,
     pub over: &'a NearestMethods,
-    pub origins: &'a [MethodId],
+    pub origins: &'a IndexMap<Path, MethodId>,
     pub levels: &'a [u32],
     pub slots: &'a [CoreType],
 }

@@ -11,4 +11,4 @@ pub returns : goal.returns
 returns c =
     let P = program_of c.args.program.now in
     let rel = rel_of c.args.sets.now in
-    subst (λ levels. IfOk c.found_by.result (λ found. MatchOption found (IsOrdered P rel (level_in levels)) (λ bad. IsFirstBad P rel (level_in levels) bad.method bad.class bad.under))) c.as_slice-2.ensures.value c.found_by.ensures
+    subst (λ levels. IfOk c.found_by.result (λ found. MatchOption found (IsOrdered P rel (level_in levels)) (λ bad. IsFirstBad P rel (level_in levels) bad.method bad.class bad.under))) c.as_slice.ensures.value c.found_by.ensures
