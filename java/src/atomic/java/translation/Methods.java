@@ -63,10 +63,7 @@ public final class Methods {
         while (!waiting.isEmpty() || !last.isEmpty()) {
             (waiting.isEmpty() ? last : waiting).remove().run();
         }
-        services.functions().brought().settle();
-        services.exits().finish(origins.keySet());
-        services.liveObjects().finish(origins.keySet());
-        services.liveContents().finish();
+        services.finish(origins.keySet());
     }
 
     /** The Java method of each method that is judged for its own sake. */

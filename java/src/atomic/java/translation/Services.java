@@ -15,6 +15,7 @@ import atomic.java.skeleton.Place;
 import atomic.java.skeleton.Value;
 import com.sun.source.tree.ExpressionTree;
 import com.sun.source.tree.Tree;
+import java.util.Collection;
 import java.util.HashMap;
 import java.util.HashSet;
 import java.util.List;
@@ -136,6 +137,14 @@ final class Services {
     /** Collections within collections that methods give their callers. */
     LiveContents liveContents() {
         return liveContents;
+    }
+
+    /** Where all methods are written: what is only known then. */
+    void finish(Collection<Method> all) {
+        functions.brought().settle();
+        exits.finish(all);
+        liveObjects.finish(all);
+        liveContents.finish();
     }
 
     /** Library objects that keep one of the sources. */
