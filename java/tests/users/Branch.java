@@ -154,7 +154,7 @@ public class Branch {
         return seen;
     }
 
-    public void interest(LongUnaryOperator rate) { // refused: fault: a function of the caller is run for one account after the other
+    public void interest(LongUnaryOperator rate) { // accepted
         long stamp = lock.writeLock();
         try {
             balances.replaceAll((account, cents) -> cents + rate.applyAsLong(cents));

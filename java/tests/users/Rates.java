@@ -157,7 +157,7 @@ public class Rates {
         return summary.getAverage();
     }
 
-    public synchronized void slideAll(long[] values, LongConsumer tell) { // refused: fault: a function of the caller in the middle
+    public synchronized void slideAll(long[] values, LongConsumer tell) { // accepted
         for (long each : values) {
             slide(each);
             tell.accept(each);

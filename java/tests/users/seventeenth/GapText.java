@@ -64,7 +64,7 @@ public class GapText {
         }
     }
 
-    public synchronized void transform(UnaryOperator<String> operator) { // refused: alarm: synchronized; the unknown operator is called while holding the lock and before any change, atomic as far as the own state goes
+    public synchronized void transform(UnaryOperator<String> operator) { // accepted
         String changed = operator.apply(toString());
         gapStart = 0;
         gapEnd = chars.length;

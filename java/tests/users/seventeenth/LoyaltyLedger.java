@@ -97,7 +97,7 @@ public class LoyaltyLedger extends LockedLedger {
         return reading(members::keySet);
     }
 
-    public boolean dropIf(Predicate<? super String> filter) { // refused: alarm: one write-locked region; the unknown predicate is called while holding the lock, atomic as far as the own state goes
+    public boolean dropIf(Predicate<? super String> filter) { // accepted
         return writing(() -> members.keySet().removeIf(filter));
     }
 

@@ -36,11 +36,11 @@ public class BranchLedger {
         }
     }
 
-    public synchronized void deposit(String id, long cents) { // refused: alarm: synchronized; calls listeners while holding the lock, atomic as far as the own state goes
+    public synchronized void deposit(String id, long cents) { // accepted
         post(active(id), cents);
     }
 
-    public boolean withdraw(String id, long cents) { // refused: alarm: one synchronized block; calls listeners while holding the lock, atomic as far as the own state goes
+    public boolean withdraw(String id, long cents) { // accepted
         synchronized (this) {
             Account account = active(id);
             if (account.balance < cents) {
@@ -92,7 +92,7 @@ public class BranchLedger {
     }
 
     /** Pays out the rest and closes the account. */
-    public synchronized long close(String id) { // refused: alarm: synchronized; a listener is called under the lock between the posting and the status change, atomic as far as the own state goes
+    public synchronized long close(String id) { // accepted
         Account account = active(id);
         long rest = account.balance;
         post(account, -rest);

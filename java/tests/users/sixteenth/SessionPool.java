@@ -48,7 +48,7 @@ public class SessionPool {
         }
     }
 
-    public Optional<Session> tryAcquire() { // refused: alarm: one locked region with one volatile read of limit; factory called under the lock, atomic as far as the own state goes
+    public Optional<Session> tryAcquire() { // accepted
         lock.lock();
         try {
             return Optional.ofNullable(next());

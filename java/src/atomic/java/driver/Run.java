@@ -6,6 +6,7 @@ import atomic.java.attribution.Javac;
 import atomic.java.options.Options;
 import atomic.java.options.Refusal;
 import atomic.java.passes.ClosedWorld;
+import atomic.java.passes.CodeOfOthers;
 import atomic.java.passes.Doubts;
 import atomic.java.passes.Inference;
 import atomic.java.passes.Limits;
@@ -154,6 +155,7 @@ public final class Run {
         unwritten.run();
         new Waiting(all, program.notes(), methods::origin, methods.wait(null)).strictly(options.strict())
             .apart(methods::copy).run();
+        new CodeOfOthers(all, program.names(), program.notes(), methods::origin).strictly(options.strict()).run();
         Inference inference = new Inference(all, options.majority(), program.sure())
             .strictly(options.strict(), methods::origin);
         if (options.infer() || options.majority()) {

@@ -373,8 +373,7 @@ public final class Ownership {
     }
 
     private List<Tree> findExits(VariableElement field) {
-        boolean hidden = field.getKind() == ElementKind.FIELD && field.getModifiers().contains(Modifier.PRIVATE)
-            && made(field) != null;
+        boolean hidden = field.getKind() == ElementKind.FIELD && !isOpen(field) && made(field) != null;
         return hidden ? uses.of(field).stream().filter(use -> escape.from(use) != Escape.NEVER).toList() : List.of();
     }
 

@@ -78,16 +78,37 @@ public final class Waiting {
         for (Method method : methods) {
             boolean alone = callees.of(method).size() == 1 && method.overridden().isEmpty() && method.required().isEmpty();
             if (alone && waitsFor(method.body()).anyMatch(lock -> isHeld(method, lock))) {
-                copies.put(method, copier.apply(method));
+                Method copy = copier.apply(method);
+                copy.closed(true);
+                copies.put(method, copy);
             }
         }
         if (!copies.isEmpty()) {
             methods.addAll(copies.values());
             methods.forEach(method -> method.body(redirected(method.body(), held.getOrDefault(method, Set.of()), copies)));
+            leaveOutUncalled(copies.keySet());
             writing = new Doers(methods, Waiting::isWrite);
             held.clear();
             findHeld();
         }
+    }
+
+    /**
+     * Of methods that only code at hand calls, which now calls the copy each time, nobody runs the first one. One that promises
+     * to be atomic is judged for those who hold nothing all the same.
+     */
+    private void leaveOutUncalled(Set<Method> first) {
+        Set<Method> called = new HashSet<>();
+        methods.forEach(method -> targets(method.body(), called));
+        first.stream().filter(each -> each.closed() && !each.atomic() && !called.contains(each))
+            .forEach(each -> each.body(Part.NOTHING));
+    }
+
+    private static void targets(Part part, Set<Method> called) {
+        if (part instanceof Part.Call call) {
+            called.add(call.target());
+        }
+        part.parts().forEach(each -> targets(each, called));
     }
 
     private static Stream<Path> waitsFor(Part part) {

@@ -28,6 +28,8 @@ public final class Method {
     private boolean closed;
     private boolean wrapped;
     private Doubt doubt = Doubt.NONE;
+    private String unknown;
+    private boolean brought;
     private Part body = Part.NOTHING;
     private final List<Method> overridden = new ArrayList<>();
 
@@ -96,6 +98,24 @@ public final class Method {
 
     public void doubt(Doubt kind) {
         doubt = kind;
+    }
+
+    /** What is told of each call that stays, where this stands for code of which nothing is known; else null. */
+    public String unknown() {
+        return unknown;
+    }
+
+    public void unknown(String why) {
+        unknown = why;
+    }
+
+    /** Whether that code is surely none of these sources: others bring it. */
+    public boolean brought() {
+        return brought;
+    }
+
+    public void brought(boolean byOthers) {
+        brought = byOthers;
     }
 
     public Part body() {

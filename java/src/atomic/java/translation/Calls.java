@@ -56,6 +56,11 @@ final class Calls {
         Value receiver = method.isStatic() ? qualifier(tree) : receiver(tree, method);
         List<Value> arguments = arguments(method, tree.getArguments());
         invoke(method, receiver, arguments, tree);
+        if (method.isAbstract() && !services.program().overriding().isOverridden(method)
+                && services.functions().brought().handsOut(tree.getArguments())) {
+            body.emit(services.doubt(Method.Doubt.ANY, method.symbol().getSimpleName().toString(), true, body, tree,
+                "unknown call: code that isn't at hand is given a collection here, and may look at it later"));
+        }
         VariableElement field = services.ownership().holding(symbol);
         return field != null ? new Accesses(services, body).confined(field, services.attribution().start(tree))
             : Ownership.isNew(services.ownership().fresh(tree)) ? new Value.Fresh(null) : Value.OPAQUE;

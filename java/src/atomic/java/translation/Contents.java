@@ -36,6 +36,7 @@ final class Contents {
     void element(Value array, boolean write, ArrayAccessTree at) {
         if (!known(array, write, at, at.getExpression().toString())) {
             exits(at.getExpression(), write);
+            change(at.getExpression(), write);
             TypeKind kind = services.attribution().type(at).getKind();
             body.emit(services.doubt(Method.Doubt.ANY, "an element", kind == TypeKind.LONG || kind == TypeKind.DOUBLE,
                 body, at, ARRAY));
@@ -54,6 +55,7 @@ final class Contents {
         if (!known(object, write, at, shown)) {
             if (at instanceof MethodInvocationTree called && called.getMethodSelect() instanceof MemberSelectTree select) {
                 exits(select.getExpression(), write);
+                change(select.getExpression(), write);
             }
             boolean brought = new Touches(services).noteBrought(at, write);
             Method.Doubt doubt = shown.startsWith("Entry.") ? Method.Doubt.ANY : brought ? Method.Doubt.OPEN : doubt(object, at);
@@ -68,6 +70,12 @@ final class Contents {
         call(array, false, at, shown);
         if (array instanceof Value.Owned && !services.program().sure()) {
             call(array, false, at, shown);
+        }
+    }
+
+    private void change(ExpressionTree object, boolean write) {
+        if (write) {
+            services.liveContents().changes(object);
         }
     }
 

@@ -26,10 +26,10 @@ final class Dispatch {
             return services.doubt(Method.Doubt.ANY, shown(method), true, body, method.tree(),
                 "unknown call: a native method may do anything");
         } else if (!self.isInterface()) {
-            return hasImplementation(method, self) ? Part.NOTHING : unknown(method, body);
+            return hasImplementation(method, self) ? Part.NOTHING : unknown(method);
         }
         List<Part> calls = calls(method, self, body);
-        return calls.isEmpty() ? unknown(method, body) : either(calls);
+        return calls.isEmpty() ? unknown(method) : either(calls);
     }
 
     /** A default method's body, or what the classes at hand have in its place. */
@@ -39,8 +39,8 @@ final class Dispatch {
         return either(all);
     }
 
-    private Part unknown(JavaMethod method, Body body) {
-        return services.doubt(Method.Doubt.ANY, shown(method), true, body, method.tree(),
+    private Part unknown(JavaMethod method) {
+        return services.brought(Method.Doubt.ANY, shown(method), method.owner().symbol().asType(), method.tree(),
             "unknown call: no class at hand has " + shown(method) + ", so it may do anything");
     }
 

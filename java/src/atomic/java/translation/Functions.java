@@ -26,6 +26,7 @@ import java.util.List;
 import java.util.Map;
 import java.util.Set;
 import javax.lang.model.element.VariableElement;
+import javax.lang.model.type.TypeMirror;
 
 /**
  * Lambdas and names of methods. One that a library calls at once is a part of its caller; any other is a class with one
@@ -63,9 +64,16 @@ final class Functions {
     private final Map<VariableElement, ExpressionTree> bound = new HashMap<>();
     private final Map<Apart, Integer> told = new HashMap<>();
     private int bindings;
+    private final Brought brought;
 
     Functions(Services services) {
         this.services = services;
+        brought = new Brought(services);
+    }
+
+    /** Calls of code that others bring. */
+    Brought brought() {
+        return brought;
     }
 
     /** The functions that stand for objects of an interface of the sources. */
@@ -236,6 +244,7 @@ final class Functions {
             mentioned(function, around);
             if (first) {
                 services.methods().later(() -> method.body(body.collect(() -> inline(function, body))));
+                brought.stands(function, method);
             }
         }
         if (outermost) {
@@ -300,8 +309,7 @@ final class Functions {
             } else if (services.program().find(services.attribution().type(bare)) != null) {
                 part = body.collect(() -> new Comparisons(services, body).comparator(bare, at));
             } else if (isFunction(bare)) {
-                part = services.doubt(Method.Doubt.ANY, "a function that isn't known", true, body, bare,
-                    "unknown call: a function that isn't known may do anything");
+                part = unknown(bare, body);
             }
             Part further = body.collect(() -> new Pipelines(services, body).givenBy(bare));
             part = Part.sequence(List.of(part, further));
@@ -310,6 +318,14 @@ final class Functions {
                     : new Part.Repeat(part, services.attribution().place(at)));
             }
         }
+    }
+
+    private Part unknown(ExpressionTree function, Body body) {
+        TypeMirror type = services.attribution().type(function);
+        String shown = "a function that isn't known";
+        String why = "unknown call: a function that isn't known may do anything";
+        return brought.takesContents(type) ? services.doubt(Method.Doubt.ANY, shown, true, body, function, why)
+            : services.brought(Method.Doubt.ANY, shown, type, function, why);
     }
 
     /** Writes the functions of a comparator, which are called any number of times; what they capture isn't known here. */

@@ -275,9 +275,10 @@ final class LibraryCalls {
 
     private void unknown(Called called) {
         if (called.at() instanceof MethodInvocationTree call && call.getMethodSelect() instanceof MemberSelectTree select
-                && services.functions().isFunction(select.getExpression())) {
-            body.emit(services.doubt(Method.Doubt.ANY, called.shown(), true, body, called.at(),
-                "unknown call: " + called.shown() + " runs a function that isn't known, so it counts as several steps"));
+                && services.functions().isFunction(select.getExpression())
+                && !services.functions().brought().handsOut(call.getArguments())) {
+            body.emit(services.brought(Method.Doubt.ANY, called.shown(), services.attribution().type(select.getExpression()),
+                called.at(), "unknown call: " + called.shown() + " runs a function that isn't known, so it counts as several steps"));
         } else {
             body.emit(services.doubt(new Contents(services, body).openness(called.at()), called.shown(), true, body, called.at(),
                 "unknown call: " + called.shown() + " may do anything, so it counts as several steps"));

@@ -63,8 +63,7 @@ public final class Methods {
         while (!waiting.isEmpty() || !last.isEmpty()) {
             (waiting.isEmpty() ? last : waiting).remove().run();
         }
-        services.exits().finish(origins.keySet());
-        services.liveObjects().finish(origins.keySet());
+        services.finish(origins.keySet());
     }
 
     /** The Java method of each method that is judged for its own sake. */

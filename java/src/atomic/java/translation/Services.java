@@ -15,15 +15,20 @@ import atomic.java.skeleton.Place;
 import atomic.java.skeleton.Value;
 import com.sun.source.tree.ExpressionTree;
 import com.sun.source.tree.Tree;
+import java.util.Collection;
 import java.util.HashMap;
 import java.util.HashSet;
 import java.util.List;
 import java.util.Map;
 import java.util.Set;
 import javax.lang.model.element.VariableElement;
+import javax.lang.model.type.TypeMirror;
 
 /** What all translators share: what is known of the program, and the methods that stand for a library's. */
 final class Services {
+    private static final String ONE = "one step";
+    private static final String SEVERAL = "several steps";
+
     private final Program program;
     private final Uses uses;
     private final Ownership ownership;
@@ -39,6 +44,7 @@ final class Services {
     private final Substitutes substitutes = new Substitutes(this);
     private final Exits exits = new Exits(this);
     private final LiveObjects liveObjects = new LiveObjects(this);
+    private final LiveContents liveContents = new LiveContents(this);
     private final Map<String, Method> helpers = new HashMap<>();
     private final Facts facts = new Facts();
     private final Set<VariableElement> changed = new HashSet<>();
@@ -128,6 +134,19 @@ final class Services {
         return liveObjects;
     }
 
+    /** Collections within collections that methods give their callers. */
+    LiveContents liveContents() {
+        return liveContents;
+    }
+
+    /** Where all methods are written: what is only known then. */
+    void finish(Collection<Method> all) {
+        functions.brought().settle();
+        exits.finish(all);
+        liveObjects.finish(all);
+        liveContents.finish();
+    }
+
     /** Library objects that keep one of the sources. */
     Wrappers wrappers() {
         return wrappers;
@@ -165,15 +184,27 @@ final class Services {
         return helper(shown, compound, doubt, program.attribution().name(at));
     }
 
+    /** The same of code that others bring, a method or a function of a type; {@link atomic.java.passes.CodeOfOthers} tells it. */
+    Part brought(Method.Doubt doubt, String shown, TypeMirror type, Tree at, String why) {
+        Part.Call call = helper(shown, "brought as " + type, doubt, program.attribution().name(at));
+        call.target().unknown(why);
+        functions.brought().asks(call.target(), type);
+        return call;
+    }
+
     /** A call of what is several steps. */
     Part.Call several(String shown, Place place) {
-        return helper(shown, true, Method.Doubt.NONE, place);
+        return helper(shown, SEVERAL, Method.Doubt.NONE, place);
     }
 
     private Part.Call helper(String shown, boolean compound, Method.Doubt doubt, Place place) {
-        Method helper = helpers.computeIfAbsent(shown + compound + doubt, key -> {
+        return helper(shown, compound ? SEVERAL : ONE, doubt, place);
+    }
+
+    private Part.Call helper(String shown, String kind, Method.Doubt doubt, Place place) {
+        Method helper = helpers.computeIfAbsent(shown + kind + doubt, key -> {
             Method made = blank(shown, doubt);
-            fill(made, compound);
+            fill(made, !kind.equals(ONE));
             return made;
         });
         return new Part.Call(new Value.Opaque(program.helpers()), helper, List.of(), place);

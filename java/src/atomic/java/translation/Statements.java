@@ -78,15 +78,23 @@ final class Statements extends SimpleTreeVisitor<Void, Void> {
             int locked = looked > 0 ? looked - 1 : regions.region(statement, rest);
             if (looked > 0 || locked > 0) {
                 k += locked;
-            } else if (services.program().sure() && Stamps.looks(statement, services.uses())
-                    && Stamps.behind(rest, services.uses()).size() < rest.size()) {
-                k += rest.size() - Stamps.behind(rest, services.uses()).size();
+            } else if (checked(statement, rest) > 0 && services.program().sure()) {
+                k += checked(statement, rest);
             } else if (statement instanceof IfTree branch && branches(branch, rest)) {
                 return;
             } else {
                 one(statement);
             }
         }
+    }
+
+    /** How many statements behind one look without a lock, and are checked afterwards: where that fails, others look again. */
+    private int checked(StatementTree statement, List<? extends StatementTree> rest) {
+        int length = Stamps.looks(statement, services.uses()) ? rest.size() - Stamps.behind(rest, services.uses()).size() : 0;
+        if (length > 0) {
+            services.hint(statement, "second look: what is looked at here is checked afterwards; it counts as steps all the same");
+        }
+        return length;
     }
 
     /** One statement. */
@@ -174,6 +182,7 @@ final class Statements extends SimpleTreeVisitor<Void, Void> {
     @Override
     public Void visitReturn(ReturnTree tree, Void nothing) {
         services.liveObjects().give(expressions.value(tree.getExpression()), tree);
+        services.liveContents().give(tree, body);
         return null;
     }
 
