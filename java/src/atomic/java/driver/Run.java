@@ -130,7 +130,10 @@ public final class Run {
 
     /** Without promises or guards little is judged: what would help is told, beside the answer. */
     private void hint(Program program, Methods methods, long promised) {
-        if (promised == 0 && !program.methods().isEmpty()) {
+        if (program.methods().isEmpty()) {
+            return;
+        }
+        if (promised == 0) {
             System.err.println("hint: no method says that it is atomic: mark one by /* atomic */, or take --public");
         }
         if (!options.infer() && !options.majority() && !methods.namesGuards()) {
