@@ -74,7 +74,7 @@ public final class Run {
             certain = certain(attribution, checker);
         }
         judging.finish();
-        emit(judging.texts());
+        emit(judging.texts(), attribution);
         List<String> errors = judging.lines();
         if (judging.status() != 0) {
             certain = certain == null && approximates ? certain(attribution, checker) : certain;
@@ -199,12 +199,16 @@ public final class Run {
         return 0;
     }
 
-    private void emit(List<Text> texts) {
+    private void emit(List<Text> texts, Attribution attribution) {
         if (options.emit() != null) {
             try {
+                Path file = Path.of(options.emit());
+                if (attribution.isSource(file)) {
+                    throw new Refusal(Options.CANNOT_WRITE, "cannot write " + file + ": it is one of the sources");
+                }
                 StringBuilder all = new StringBuilder();
                 texts.forEach(all::append);
-                Files.writeString(Path.of(options.emit()), all);
+                Files.writeString(file, all);
             } catch (IOException | java.nio.file.InvalidPathException fault) {
                 throw new Refusal(Options.CANNOT_WRITE, "cannot write " + options.emit());
             }
