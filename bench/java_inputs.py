@@ -31,6 +31,10 @@ INPUTS = (
     Input("bytes that are no text", ("bytes.java",), 1, r"bytes\.java:1:1: error: unmappable character .*"),
     Input("a source in UTF-16", ("wide.java",), 1, r"wide\.java:1:1: error: .*"),
     Input("a source with a byte of zeros", ("zero.java",), 1, r"zero\.java:1:11: error: illegal character: .*"),
+    Input("a name that means nothing", ("unknown.java",), 1, r"unknown\.java:1:11: error: .*, symbol: class B, .*"),
+    Input("an import that only annotations name", ("imported.java",), 0),
+    Input("an import that something else names", ("wanted.java",), 1, r"wanted\.java:1:9: error: package x does .*"),
+    Input("a static import that isn't found", ("static.java",), 1, r"static\.java:1:16: error: package x does .*"),
     Input("a class twice", ("twice.java",), 1, r"twice\.java:2:1: error: duplicate class: A"),
     Input("lines that end as on Windows", ("windows.java",), 0),
     Input("a file by two names, and its folder", ("good.java", "./good.java", "link.java", "round"), 0),
@@ -50,6 +54,15 @@ INPUTS = (
     Input("a library that isn't there", ("--library", "nowhere", "good.java"), 6, "cannot read nowhere"),
     Input("a library with a bad row", ("--library", "text.txt", "good.java"), 9, r"text\.txt:1: error: .*"),
     Input("logs where a file stands", ("--log", "good.java", "good.java"), 7, r"cannot write into good\.java"),
+    Input("a skeleton over a source", ("--emit", "link.java", "good.java"), 7, "cannot write link.java: it is .*"),
+    Input("logs over the sources", ("--log", ".", "good.java"), 7, r"cannot write into \.: a source would be lost"),
+    Input("logs over the sources, by no name", ("--log", "", "good.java"), 7, "cannot write into : a source .*"),
+    Input("words in a file", ("@words",), 0),
+    Input("a file of words that isn't there", ("@nowhere",), 6, "cannot read nowhere"),
+    Input("a name that begins as one of these", ("--", "@words.java"), 0),
+    Input("an option that there isn't", ("--what", "good.java"), 9, "there is no option --what .*"),
+    Input("an option without its value", ("good.java", "--emit"), 9, "--emit wants a value .*"),
+    Input("no file", ("--public",), 9, "no file is named .*"),
     Input("a folder with no source but the module's", ("module",), 6, "no Java source in module"),
     Input("an expression that is nested too deeply", ("deep.java",), 8, TOO_LARGE),
     Input("a skeleton that can't be written", ("--emit", "/dev/full", "good.java"), 7, "cannot write /dev/full"),
@@ -66,11 +79,17 @@ def write(folder: Path) -> None:
         "bytes.java": bytes(range(255, 127, -1)),
         "wide.java": GOOD.encode("utf-16"),
         "zero.java": GOOD.replace("{ @", "{ \0@", 1).encode(),
+        "unknown.java": b"class A { B b; }\n",
+        "imported.java": b"import x.GuardedBy; " + GOOD.encode(),
+        "wanted.java": b"import x.B; class A { @B B v; }\n",
+        "static.java": b"import static x.B.*; class A { }\n",
         "twice.java": (GOOD + GOOD).encode(),
         "windows.java": GOOD.replace("; ", ";\r\n").encode(),
         "good.java": GOOD.encode(),
         "two\nlines.java": GOOD.encode(),
         "open.java": b"class A { int v; public void f() { v++; } }\n",
+        "words": b"--public\n\t'--quiet' \"two\\nlines.java\"",
+        "@words.java": GOOD.encode(),
         "text.jar": b"This isn't Java.\n",
         "text.txt": b"This isn't Java.\n",
         "second/A.java": GOOD.encode(),
@@ -104,7 +123,9 @@ def wrong(given: Input, folder: Path, program: Path) -> str:
     lines = told.splitlines()
     if given.first and (not lines or not re.fullmatch(given.first, lines[0])):
         return f"the first line is {lines[:1]}, wanted {given.first}"
-    if given.status > 2 and len(lines) + len(beside.splitlines()) > (2 if given.to else 1):
+    if given.to and not beside.splitlines()[-1].startswith("cannot write the answer: "):
+        return f"it isn't said that the answer can't be written: {beside[:300]}"
+    if given.status > 2 and not given.to and len(lines) + len(beside.splitlines()) > 1:
         return f"more than one line: {(told + beside)[:300]}"
     return ""
 

@@ -44,7 +44,7 @@ public final class Main {
             fault.printStackTrace();
             status = Options.FAULT;
         }
-        return write(answer) ? status : Options.CANNOT_WRITE;
+        return write(answer, status);
     }
 
     private static int answer(String[] words, StringBuilder answer) {
@@ -58,12 +58,13 @@ public final class Main {
         return new Run(options).judge(answer);
     }
 
-    private static boolean write(StringBuilder answer) {
+    private static int write(StringBuilder answer, int status) {
         try (OutputStream out = new FileOutputStream(FileDescriptor.out)) {
             out.write(answer.toString().getBytes(StandardCharsets.UTF_8));
-            return true;
+            return status;
         } catch (IOException fault) {
-            return false;
+            System.err.println("cannot write the answer: " + fault.getMessage());
+            return Options.CANNOT_WRITE;
         }
     }
 }

@@ -28,11 +28,15 @@ import com.sun.source.util.SourcePositions;
 import com.sun.source.util.TreePath;
 import com.sun.source.util.TreePathScanner;
 import com.sun.source.util.Trees;
+import java.io.IOException;
+import java.nio.file.Files;
+import java.nio.file.Path;
 import java.util.ArrayList;
 import java.util.IdentityHashMap;
 import java.util.List;
 import java.util.Map;
 import java.util.Set;
+import java.util.stream.Collectors;
 import javax.lang.model.element.Element;
 import javax.lang.model.type.TypeMirror;
 import javax.lang.model.util.Elements;
@@ -53,6 +57,7 @@ public final class Attribution {
     private final Map<Tree, Known> all = new IdentityHashMap<>();
     private final Map<CompilationUnitTree, SourceText> sources = new IdentityHashMap<>();
     private final Map<SourceText, CompilationUnitTree> owners = new IdentityHashMap<>();
+    private final Set<Path> files;
 
     /** What is known of a tree: the one around it, the source that it stands in, its meaning and type or null. */
     private record Known(Tree parent, SourceText source, Element meaning, TypeMirror kind) {
@@ -67,6 +72,7 @@ public final class Attribution {
         positions = trees.getSourcePositions();
         this.sources.putAll(sources);
         sources.keySet().forEach(units::add);
+        files = units.stream().map(unit -> Path.of(unit.getSourceFile().toUri())).collect(Collectors.toSet());
         sources.forEach((unit, text) -> owners.put(text, unit));
         units.sort(java.util.Comparator.comparing(unit -> sources.get(unit).file()));
         units.forEach(unit -> new Collector(unit, sources.get(unit)).scan(new TreePath(unit), null));
@@ -133,6 +139,11 @@ public final class Attribution {
 
     public SourceText source(CompilationUnitTree unit) {
         return sources.get(unit);
+    }
+
+    /** Whether a file is one of the sources, by whatever name. */
+    public boolean isSource(Path file) throws IOException {
+        return Files.exists(file) && files.contains(file.toRealPath());
     }
 
     /** The source that a tree stands in. */

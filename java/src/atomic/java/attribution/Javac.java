@@ -4,6 +4,10 @@ import atomic.java.options.Options;
 import atomic.java.options.Refusal;
 import com.sun.source.tree.AnnotationTree;
 import com.sun.source.tree.CompilationUnitTree;
+import com.sun.source.tree.IdentifierTree;
+import com.sun.source.tree.ImportTree;
+import com.sun.source.tree.MemberSelectTree;
+import com.sun.source.tree.Tree;
 import com.sun.source.util.JavacTask;
 import com.sun.source.util.SourcePositions;
 import com.sun.source.util.TreeScanner;
@@ -15,11 +19,14 @@ import java.nio.charset.StandardCharsets;
 import java.nio.file.Path;
 import java.util.ArrayList;
 import java.util.HashMap;
+import java.util.HashSet;
 import java.util.LinkedHashMap;
 import java.util.List;
+import java.util.Locale;
 import java.util.Map;
 import java.util.Set;
 import java.util.regex.Pattern;
+import java.util.stream.Collectors;
 import javax.tools.Diagnostic;
 import javax.tools.DiagnosticCollector;
 import javax.tools.JavaCompiler;
@@ -29,6 +36,8 @@ import javax.tools.ToolProvider;
 
 /** Runs javac over the sources up to the point where each name and type is known. */
 public final class Javac {
+    /** How the codes begin by which javac says that a name means nothing. */
+    private static final List<String> UNKNOWN = List.of("compiler.err.cant.resolve", "compiler.err.doesnt.exist");
     private static final Pattern FAULT = Pattern.compile("[\\w.$]+(Error|Exception|Failure)\\b");
 
     private final Options options;
@@ -119,8 +128,7 @@ public final class Javac {
             SourceText text = texts.get(each.getSource());
             boolean named = "compiler.err.class.public.should.be.in.file".equals(each.getCode());
             if (each.getKind() == Diagnostic.Kind.ERROR && !named && !isUnknownAnnotation(each, annotations)) {
-                String message = each.getMessage(java.util.Locale.ENGLISH).lines().findFirst().orElse("");
-                lines.add((text == null ? "" : text.place(each.getPosition()) + ": ") + "error: " + message);
+                lines.add((text == null ? "" : text.place(each.getPosition()) + ": ") + "error: " + message(each));
             }
         }
         if (!lines.isEmpty()) {
@@ -128,24 +136,50 @@ public final class Javac {
         }
     }
 
+    /** What javac says, in one line: which name it can't find stands in its second one. */
+    private static String message(Diagnostic<? extends JavaFileObject> told) {
+        return told.getMessage(Locale.ENGLISH).lines().map(line -> line.strip().replaceAll("\\s+", " "))
+            .filter(line -> !line.isEmpty()).collect(Collectors.joining(", ")).replaceAll("([;:]),", "$1");
+    }
+
     /** Annotations count by their simple names, so one that javac doesn't find is none of its business. */
     private static boolean isUnknownAnnotation(Diagnostic<? extends JavaFileObject> told,
             Map<JavaFileObject, List<long[]>> annotations) {
-        return told.getCode() != null && told.getCode().startsWith("compiler.err.cant.resolve")
+        return told.getCode() != null && UNKNOWN.stream().anyMatch(told.getCode()::startsWith)
             && annotations.getOrDefault(told.getSource(), List.of()).stream()
                 .anyMatch(range -> range[0] <= told.getPosition() && told.getPosition() <= range[1]);
     }
 
+    /** Where annotations stand, and the imports of what annotations alone name. */
     private static List<long[]> annotations(CompilationUnitTree unit, JavacTask task) {
         SourcePositions positions = Trees.instance(task).getSourcePositions();
-        List<long[]> ranges = new ArrayList<>();
+        List<Tree> found = new ArrayList<>();
+        Set<String> others = new HashSet<>();
         new TreeScanner<Void, Void>() {
             @Override
             public Void visitAnnotation(AnnotationTree tree, Void nothing) {
-                ranges.add(new long[] {positions.getStartPosition(unit, tree), positions.getEndPosition(unit, tree)});
-                return super.visitAnnotation(tree, nothing);
+                found.add(tree);
+                return null;
+            }
+
+            @Override
+            public Void visitImport(ImportTree tree, Void nothing) {
+                return null;
+            }
+
+            @Override
+            public Void visitIdentifier(IdentifierTree tree, Void nothing) {
+                others.add(tree.getName().toString());
+                return null;
             }
         }.scan(unit, null);
-        return ranges;
+        unit.getImports().stream().filter(each -> !each.isStatic() && !others.contains(imported(each))).forEach(found::add);
+        return found.stream().map(each -> new long[] {positions.getStartPosition(unit, each),
+            positions.getEndPosition(unit, each)}).toList();
+    }
+
+    /** The name that an import makes known. */
+    private static String imported(ImportTree tree) {
+        return tree.getQualifiedIdentifier() instanceof MemberSelectTree member ? member.getIdentifier().toString() : "";
     }
 }

@@ -83,9 +83,9 @@ final class Certainty {
     }
 
     /** The errors in the order of their places, each once and with the lines behind it. */
-    static List<String> inOrder(List<String> lines) {
+    static List<String> inOrder(Map<String, List<String>> blocks) {
         record Placed(Place place, List<String> block) { }
-        return blocks(lines).entrySet().stream().map(each -> new Placed(placeOf(each.getKey()), each.getValue()))
+        return blocks.entrySet().stream().map(each -> new Placed(placeOf(each.getKey()), each.getValue()))
             .sorted(Comparator.comparing(Placed::place)).flatMap(each -> each.block().stream()).toList();
     }
 
@@ -127,16 +127,19 @@ final class Certainty {
         return block.stream().anyMatch(each -> each.endsWith(DOUBT) || each.endsWith(UNSEEN));
     }
 
+    /** What an error says without what was found. */
+    static String key(String line) {
+        return !place(line).isEmpty() && line.contains(FOUND) ? line.substring(0, line.lastIndexOf(FOUND)) : line;
+    }
+
     /** Each error with the lines behind it, by what it says without what was found. */
     static Map<String, List<String>> blocks(List<String> lines) {
         Map<String, List<String>> blocks = new LinkedHashMap<>();
         List<String> current = new ArrayList<>();
         for (String line : lines) {
-            boolean head = !place(line).isEmpty();
-            if (head || blocks.isEmpty()) {
+            if (blocks.isEmpty() || !place(line).isEmpty()) {
                 current = new ArrayList<>();
-                String key = head && line.contains(FOUND) ? line.substring(0, line.lastIndexOf(FOUND)) : line;
-                blocks.putIfAbsent(key, current);
+                blocks.putIfAbsent(key(line), current);
             }
             current.add(line);
         }

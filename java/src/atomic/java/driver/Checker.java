@@ -16,6 +16,7 @@ import java.util.concurrent.ExecutorService;
 import java.util.concurrent.Executors;
 import java.util.concurrent.Future;
 import java.util.concurrent.TimeUnit;
+import java.util.function.Predicate;
 
 /**
  * Runs {@code atomic_why}, the proved program, on texts of skeletons: as many runs at once as there are processors. No
@@ -46,8 +47,8 @@ public final class Checker implements AutoCloseable {
 
         private Question(byte[] text, boolean listed) {
             this.text = text;
-            this.explained = runs.submit(() -> answer(text));
-            this.listed = listed ? runs.submit(() -> answer(text, "--all")) : null;
+            this.explained = runs.submit(() -> answer(text, line -> true));
+            this.listed = listed ? list() : null;
         }
 
         /** Waits for the explanations alone. */
@@ -55,9 +56,13 @@ public final class Checker implements AutoCloseable {
             return wait(explained);
         }
 
-        /** Waits for what each part is, and asks for it where nobody has. */
+        /** Waits for what each method is, and asks for it where nobody has. */
         public Answer listed() {
-            return wait(listed != null ? listed : runs.submit(() -> answer(text, "--all")));
+            return wait(listed != null ? listed : list());
+        }
+
+        private Future<Answer> list() {
+            return runs.submit(() -> answer(text, Checker::isOfMethod, "--all"));
         }
 
         private Answer wait(Future<Answer> answer) {
@@ -80,7 +85,12 @@ public final class Checker implements AutoCloseable {
         return new Question(text, listed);
     }
 
-    private Answer answer(byte[] text, String... options) throws IOException, InterruptedException {
+    /** Whether a line of a list says what a method is. Most are about its parts, and would take most of the memory. */
+    private static boolean isOfMethod(String line) {
+        return line.endsWith(" 0");
+    }
+
+    private Answer answer(byte[] text, Predicate<String> kept, String... options) throws IOException, InterruptedException {
         List<String> words = new ArrayList<>(List.of(program.toString()));
         words.addAll(List.of(options));
         words.add(INPUT);
@@ -88,12 +98,12 @@ public final class Checker implements AutoCloseable {
         hand(text, process);
         String told = new String(process.getInputStream().readAllBytes(), StandardCharsets.UTF_8);
         String front = INPUT + ":";
-        List<String> lines = told.lines().map(line -> line.startsWith(front) ? line.substring(front.length()) : line)
-            .toList();
+        List<String> lines = told.lines().filter(kept)
+            .map(line -> line.startsWith(front) ? line.substring(front.length()) : line).toList();
         int status = process.waitFor();
         if (status == Options.NO_MEMORY) {
             throw new Refusal(status, "the sources are too large: memory ran out in " + program);
-        } else if (!ANSWERS.contains(status) || status == Options.NOT_JAVA && lines.isEmpty()) {
+        } else if (!ANSWERS.contains(status) || status == Options.NOT_JAVA && told.isEmpty()) {
             throw new Refusal(Options.NO_CHECKER, program + " gives no answer, but status " + status);
         }
         return new Answer(status, lines);

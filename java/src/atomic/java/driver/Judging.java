@@ -14,9 +14,12 @@ import atomic.java.skeleton.Method;
 import atomic.java.skeleton.Part;
 import atomic.java.skeleton.Shape;
 import atomic.java.translation.Methods;
+import java.util.ArrayDeque;
 import java.util.ArrayList;
 import java.util.Comparator;
+import java.util.Deque;
 import java.util.HashMap;
+import java.util.LinkedHashMap;
 import java.util.LinkedHashSet;
 import java.util.List;
 import java.util.Map;
@@ -27,8 +30,8 @@ import java.util.stream.Collectors;
 
 /**
  * Has the skeleton judged. One that is larger than the checker reads is judged in pieces, each with all that its methods
- * call. A method that breaks a limit of the checker counts as compound, and that is told. All pieces are written before
- * the first answer is looked at, and the answers are taken in the same order, so that nothing depends on which comes first.
+ * call. A method that breaks a limit of the checker counts as compound, and that is told. A fixed number of pieces wait for
+ * their answers, and these are taken in the order of the pieces, so that nothing depends on which comes first.
  */
 final class Judging {
     private static final Pattern LISTED = Pattern.compile("(\\d+:\\d+): (\\w+): (\\S+) 0");
@@ -39,18 +42,22 @@ final class Judging {
     /** Of so many parts of what is too much for one text, one is taken out before the rest is looked at again. */
     private static final int CUT_PARTS = 4;
 
+    /** The most pieces that wait for their answers: more would only take memory. */
+    private static final int MOST_WAITING = 32;
+
     private final Program program;
     private final Methods methods;
     private final Checker checker;
     private final Callees callees;
-    private final List<Piece> asked = new ArrayList<>();
+    private final Deque<Piece> asked = new ArrayDeque<>();
     private final Set<Method> reduced = new LinkedHashSet<>();
-    private final List<String> lines = new ArrayList<>();
+    private final Map<String, List<String>> blocks = new LinkedHashMap<>();
     private final List<Text> texts = new ArrayList<>();
     private final Map<String, String> found = new HashMap<>();
     private final Pieces pieces;
     private List<String> inOrder;
     private Method pastLimit;
+    private int accepted;
     private int repairs;
     private int status;
 
@@ -89,14 +96,6 @@ final class Judging {
             // What is refused once may be refused again: only what is accepted is listed then.
             question = checker.ask(text.bytes(), listed && question == null);
         }
-
-        Checker.Answer explained() {
-            return pieces.spelled(question.explained());
-        }
-
-        Checker.Answer listed() {
-            return pieces.spelled(question.listed());
-        }
     }
 
     /** Begins to judge all methods. */
@@ -119,19 +118,23 @@ final class Judging {
     private void ask(List<Method> all, boolean listed) {
         pieces.begin(all);
         do {
+            if (asked.size() == MOST_WAITING) {
+                judge(asked.remove());
+            }
             asked.add(new Piece(pieces.next(this::cut), listed));
         } while (pieces.hasNext());
     }
 
     /** Waits for the first text that is refused; whether there is one. */
     boolean isRefused() {
-        return asked.stream().anyMatch(each -> each.question.explained().status() != 0);
+        return status != 0 || asked.stream().anyMatch(each -> each.question.explained().status() != 0);
     }
 
     /** Waits for all answers. */
     void finish() {
-        asked.forEach(this::judge);
-        asked.clear();
+        while (!asked.isEmpty()) {
+            judge(asked.remove());
+        }
     }
 
     /**
@@ -171,9 +174,9 @@ final class Judging {
 
     private void judge(Piece piece) {
         for (int k = 0; k < MOST_REPAIRS; k++) {
-            Checker.Answer told = piece.explained();
+            Checker.Answer told = piece.question.explained();
             if (told.status() != Options.NOT_JAVA && told.status() != Options.TOO_LARGE) {
-                accept(piece, told, piece.listed ? piece.listed() : new Checker.Answer(0, List.of()));
+                accept(piece, told, piece.listed ? piece.question.listed() : new Checker.Answer(0, List.of()));
                 return;
             }
             if (piece.repaired == repairs) {
@@ -186,34 +189,43 @@ final class Judging {
 
     private void accept(Piece piece, Checker.Answer told, Checker.Answer listed) {
         status = Math.max(status, told.status());
-        texts.add(piece.text);
+        accepted++;
+        if (program.options().emit() != null) {
+            texts.add(piece.text);
+        }
         List<String> all = new ArrayList<>(told.lines());
         if (all.removeIf(each -> each.endsWith(COUNTED))) {
             all.addAll(counted(piece, all));
         }
-        lines.addAll(new Answer(piece.text, program.names()).lines(all));
+        Answer answer = new Answer(piece.text, program.names(), pieces::spelled);
+        Certainty.blocks(answer.lines(all, this::isNew)).forEach(blocks::putIfAbsent);
         for (String line : listed.lines()) {
-            Matcher parts = line.endsWith(" 0") ? LISTED.matcher(line) : null;
-            if (parts != null && parts.matches()) {
-                found.put(parts.group(3), parts.group(2));
+            Matcher parts = LISTED.matcher(line);
+            if (parts.matches()) {
+                found.put(pieces.spelled(parts.group(3)), parts.group(2));
             }
         }
+    }
+
+    /** Whether an error stands in no text before. What methods of many texts call stands in each of these. */
+    private boolean isNew(String head) {
+        return !blocks.containsKey(Certainty.key(head));
     }
 
     /**
      * The errors of methods that the checker only counts: those that are errors since they call one that is, beside the
      * first that is told. In Java each method that is refused is told at its place.
      */
-    private static List<String> counted(Piece piece, List<String> told) {
+    private List<String> counted(Piece piece, List<String> told) {
         Set<String> atomic = piece.wanted.stream().filter(Method::atomic).map(Judging::name).collect(Collectors.toSet());
         Set<String> heads = told.stream().filter(each -> each.contains(Certainty.ERROR))
             .map(each -> each.substring(0, each.indexOf(Certainty.ERROR))).collect(Collectors.toSet());
         List<String> more = new ArrayList<>();
-        for (String line : piece.listed().lines()) {
+        for (String line : piece.question.listed().lines()) {
             Matcher parts = LISTED.matcher(line);
             if (parts.matches() && parts.group(2).equals("error") && heads.add(parts.group(1))) {
                 more.add(parts.group(1) + Certainty.ERROR + parts.group(3) + " is declared "
-                    + (atomic.contains(parts.group(3)) ? "atomic" : "cmpd") + ", found error");
+                    + (atomic.contains(pieces.spelled(parts.group(3))) ? "atomic" : "cmpd") + ", found error");
                 more.add(parts.group(1) + ": note: calls a method that is an error itself");
             }
         }
@@ -230,7 +242,7 @@ final class Judging {
         Method method = parts.matches() ? writer.method(Integer.parseInt(parts.group(1))) : largest(wanted);
         String kind = parts.matches() ? parts.group(3) : "too large";
         if (method == null || !reduced.add(method)) {
-            throw new Refusal(Options.NO_CHECKER, "atomic_why can't read the skeleton: " + String.join("; ", told.lines())
+            throw new Refusal(Options.NO_CHECKER, "atomic_why can't read the skeleton: " + pieces.spelled(String.join("; ", told.lines()))
                 + (parts.matches() ? ": " + writer.line(Integer.parseInt(parts.group(1))) : ""));
         }
         reduce(method, kind);
@@ -311,10 +323,12 @@ final class Judging {
 
     /** What was told: of several texts the errors in the order of the sources, each once. */
     List<String> lines() {
-        inOrder = inOrder != null ? inOrder : texts.size() <= 1 ? lines : Certainty.inOrder(lines);
+        inOrder = inOrder != null ? inOrder : accepted > 1 ? Certainty.inOrder(blocks)
+            : blocks.values().stream().flatMap(List::stream).toList();
         return inOrder;
     }
 
+    /** The texts that were judged, where they are asked for. */
     List<Text> texts() {
         return texts;
     }

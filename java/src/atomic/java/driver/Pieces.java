@@ -114,10 +114,9 @@ final class Pieces {
         return aliases == null ? writer : writer.brief(aliases);
     }
 
-    /** What the checker says of such a text, in the names of the skeleton. */
-    Checker.Answer spelled(Checker.Answer told) {
-        return aliases == null ? told
-            : new Checker.Answer(told.status(), told.lines().stream().map(aliases::spelled).toList());
+    /** Words of what the checker says of such a text, in the names of the skeleton. */
+    String spelled(String words) {
+        return aliases == null ? words : aliases.spelled(words);
     }
 
     /** The text of these methods. Where all classes would take most of it, it has those that the methods name. */

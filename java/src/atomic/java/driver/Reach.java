@@ -26,6 +26,7 @@ final class Reach {
         private final int size;
         private List<Node> further;
         private Node root;
+        private boolean full;
 
         Node(Method method) {
             this.method = method;
@@ -49,7 +50,10 @@ final class Reach {
         return nodes.computeIfAbsent(method, Node::new);
     }
 
-    /** The bytes of a method and all that it reaches; where these are more than {@code most}, this many. */
+    /**
+     * The bytes of a method and all that it reaches; where these are more than {@code most}, which is the same each time, this
+     * many. So it is with a method that reaches one of which that is known.
+     */
     int bytes(Method method, int most) {
         Node root = node(method);
         root.isFirst(root);
@@ -57,9 +61,10 @@ final class Reach {
         int sum = 0;
         while (!waiting.isEmpty() && sum < most) {
             Node each = waiting.pop();
-            sum += each.size;
+            sum = each.full ? most : sum + each.size;
             each.further().stream().filter(node -> node.isFirst(root)).forEach(waiting::add);
         }
+        root.full = sum >= most;
         return Math.min(sum, most);
     }
 }

@@ -75,7 +75,7 @@ public final class Run {
             certain = certain(attribution, checker);
         }
         judging.finish();
-        emit(judging.texts());
+        emit(judging.texts(), attribution);
         List<String> errors = judging.lines();
         if (judging.status() != 0) {
             certain = certain == null && approximates ? certain(attribution, checker) : certain;
@@ -131,7 +131,10 @@ public final class Run {
 
     /** Without promises or guards little is judged: what would help is told, beside the answer. */
     private void hint(Program program, Methods methods, long promised) {
-        if (promised == 0 && !program.methods().isEmpty()) {
+        if (program.methods().isEmpty()) {
+            return;
+        }
+        if (promised == 0) {
             System.err.println("hint: no method says that it is atomic: mark one by /* atomic */, or take --public");
         }
         if (!options.infer() && !options.majority() && !methods.namesGuards()) {
@@ -198,12 +201,16 @@ public final class Run {
         return 0;
     }
 
-    private void emit(List<Text> texts) {
+    private void emit(List<Text> texts, Attribution attribution) {
         if (options.emit() != null) {
             try {
+                Path file = Path.of(options.emit());
+                if (attribution.isSource(file)) {
+                    throw new Refusal(Options.CANNOT_WRITE, "cannot write " + file + ": it is one of the sources");
+                }
                 StringBuilder all = new StringBuilder();
                 texts.forEach(all::append);
-                Files.writeString(Path.of(options.emit()), all);
+                Files.writeString(file, all);
             } catch (IOException | java.nio.file.InvalidPathException fault) {
                 throw new Refusal(Options.CANNOT_WRITE, "cannot write " + options.emit());
             }

@@ -17,10 +17,6 @@ public final class Options {
     public static final int NO_CHECKER = 12;
     public static final int FAULT = 13;
 
-    /** The line that faulty words are answered with. */
-    public static final String USAGE_LINE = "usage: atomic-java [--public] [--infer | --majority] [--strict] [--quiet]"
-        + " [--classpath PATH] [--patch-module MODULE=FOLDER] [--library FILE] [--emit FILE] [--explain METHOD] FILE..";
-
     /** What {@code --help} writes. */
     public static final String HELP = String.join("\n",
         "usage: atomic-java [options] FILE..",
@@ -38,10 +34,11 @@ public final class Options {
         "  --explain METHOD      shows the skeleton of METHOD (name, or Class.name) and what was noted of it",
         "  --log FOLDER          writes copies of the sources that log their steps",
         "  --help, --version     this text; the version",
+        "  @FILE                 the words that stand in FILE, as javac reads them",
         "",
         "A method is marked by @Atomic or by a comment /* atomic */ before it. Status 0: accepted; 2: refused;",
-        "1: javac finds errors; 6: a file can't be read; 7: the answer can't be written; 9: faulty words;",
-        "13: a fault of this program.");
+        "1: javac finds errors; 6: a file can't be read; 7: the answer can't be written; 8: memory ran out;",
+        "9: faulty words; 10: too many limits of the checker; 12: no atomic_why; 13: a fault of this program.");
 
     private static final Set<String> WITH_VALUE = Set.of("--classpath", "--patch-module", "--library", "--emit",
         "--explain", "--log");
@@ -61,32 +58,35 @@ public final class Options {
     private String log;
 
     /** Reads the words, or refuses them. */
-    public static Options of(String[] words) {
+    public static Options of(String[] given) {
+        List<String> words = WordFiles.expanded(given);
         Options options = new Options();
         boolean onlyFiles = false;
-        for (int k = 0; k < words.length; k++) {
-            String word = words[k];
+        for (int k = 0; k < words.size(); k++) {
+            String word = words.get(k);
             if (onlyFiles || !word.startsWith("-") || word.equals("-")) {
                 options.files.add(word);
             } else if (word.equals("--")) {
                 onlyFiles = true;
             } else if (WITH_VALUE.contains(word)) {
                 k++;
-                options.give(word, k < words.length ? words[k] : refuse());
+                options.give(word, k < words.size() ? words.get(k) : refuse(word + " wants a value"));
             } else if (word.contains("=") && WITH_VALUE.contains(word.substring(0, word.indexOf('=')))) {
                 options.give(word.substring(0, word.indexOf('=')), word.substring(word.indexOf('=') + 1));
             } else {
                 options.set(word);
             }
         }
-        if (options.question == null && (options.files.isEmpty() || options.infer && options.majority)) {
-            refuse();
+        if (options.question == null && options.files.isEmpty()) {
+            refuse("no file is named");
+        } else if (options.infer && options.majority) {
+            refuse("--infer and --majority exclude each other");
         }
         return options;
     }
 
-    private static String refuse() {
-        throw new Refusal(USAGE, USAGE_LINE);
+    private static String refuse(String why) {
+        throw new Refusal(USAGE, why + " (atomic-java --help lists the options)");
     }
 
     private void set(String word) {
@@ -97,7 +97,8 @@ public final class Options {
             case "--strict" -> strict = true;
             case "--quiet" -> quiet = true;
             case "--help", "--version" -> question = word;
-            default -> refuse();
+            case "-h" -> question = "--help";
+            default -> refuse("there is no option " + word);
         }
     }
 

@@ -28,7 +28,7 @@ public final class Aliases {
         return alias;
     }
 
-    /** A line of an answer with the names that its aliases stand for. */
+    /** A line of an answer, which is ASCII, with the names that its aliases stand for. */
     public String spelled(String line) {
         StringBuilder spelled = new StringBuilder();
         int done = 0;
@@ -49,10 +49,14 @@ public final class Aliases {
     }
 
     private static boolean isAlias(String line, int from, int to) {
-        return to - from >= 2 && Character.isLowerCase(line.charAt(from)) && Character.isDigit(line.charAt(from + 1));
+        return to - from >= 2 && line.charAt(from) >= 'a' && line.charAt(from) <= 'z' && isDigit(line.charAt(from + 1));
     }
 
     private static boolean isOfWord(char letter) {
-        return letter == '_' || Character.isLetterOrDigit(letter);
+        return letter >= 'a' && letter <= 'z' || letter >= 'A' && letter <= 'Z' || letter == '_' || isDigit(letter);
+    }
+
+    private static boolean isDigit(char letter) {
+        return letter >= '0' && letter <= '9';
     }
 }

@@ -2,6 +2,8 @@ package atomic.java.places;
 
 import atomic.java.skeleton.Place;
 import java.util.List;
+import java.util.function.Predicate;
+import java.util.function.UnaryOperator;
 import java.util.regex.Matcher;
 import java.util.regex.Pattern;
 
@@ -9,36 +11,46 @@ import java.util.regex.Pattern;
 public final class Answer {
     private static final Pattern LINE = Pattern.compile("(\\d+):(\\d+): (error|note): (.*)");
     private static final Pattern RULE = Pattern.compile(" \\[[a-z-]+\\]");
-    private static final Pattern HEAD = Pattern.compile("\\S+ is (const|mover|atomic|cmpd|error)|.* is declared .*");
+    private static final Pattern HEAD = Pattern.compile("\\S+ is (const|mover|atomic|cmpd|error)");
+    private static final String DECLARED = " is declared ";
 
     private final Text text;
     private final Names names;
+    private final UnaryOperator<String> spelled;
 
-    public Answer(Text text, Names names) {
+    /** The answer about a text; {@code spelled} gives the words of a line with the names that its short ones stand for. */
+    public Answer(Text text, Names names, UnaryOperator<String> spelled) {
         this.text = text;
         this.names = names;
+        this.spelled = spelled;
     }
 
-    /** The lines at Java places. What is said of the inside of a library's method is left out. */
-    public List<String> lines(List<String> told) {
+    /**
+     * The lines at Java places. What is said of the inside of a library's method is left out, and what stands behind an error
+     * whose first line isn't wanted.
+     */
+    public List<String> lines(List<String> told, Predicate<String> wanted) {
         Blocks blocks = new Blocks();
         boolean outside = false;
+        boolean had = false;
         for (String line : told) {
             Matcher parts = LINE.matcher(line);
             if (!parts.matches()) {
-                blocks.begin(line);
+                blocks.begin(spelled.apply(line));
                 continue;
             }
-            Place place = text.place(Integer.parseInt(parts.group(1)), Integer.parseInt(parts.group(2)));
             String words = withoutRule(parts.group(4));
-            String written = place + ": " + parts.group(3) + ": " + java(words);
-            if (HEAD.matcher(words).matches()) {
-                outside = place == null;
-                if (!outside) {
-                    blocks.begin(written);
+            boolean head = words.contains(DECLARED) || HEAD.matcher(words).matches();
+            if (head || !outside && !had) {
+                Place place = text.place(Integer.parseInt(parts.group(1)), Integer.parseInt(parts.group(2)));
+                String written = place + ": " + parts.group(3) + ": " + java(spelled.apply(words));
+                outside = head ? place == null : outside;
+                if (head && !outside) {
+                    boolean first = blocks.begin(written);
+                    had = parts.group(3).equals("error") ? first && !wanted.test(written) : had;
+                } else if (!head && place != null) {
+                    blocks.add(written);
                 }
-            } else if (!outside && place != null) {
-                blocks.add(written);
             }
         }
         return blocks.lines();

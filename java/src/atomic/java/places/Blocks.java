@@ -10,10 +10,10 @@ final class Blocks {
     private final Map<String, List<String>> blocks = new LinkedHashMap<>();
     private List<String> current = new ArrayList<>();
 
-    /** Begins the block of a method. */
-    void begin(String head) {
+    /** Begins the block of a method; whether it is the first of its name. */
+    boolean begin(String head) {
         current = new ArrayList<>();
-        blocks.putIfAbsent(head, current);
+        return blocks.putIfAbsent(head, current) == null;
     }
 
     void add(String line) {

@@ -79,7 +79,10 @@ public final class Copies {
         SourceText source = attribution.source(unit);
         LoggedCopy copy = new LoggedCopy(attribution, program.library(), classes, source.text(), atomic, singles);
         String named = unit.getPackageName() == null ? "" : unit.getPackageName().toString().replace('.', '/');
-        Path path = folder.resolve(named).resolve(Path.of(source.file()).getFileName());
+        Path path = folder.resolve(named).resolve(Path.of(source.file()).getFileName()).toAbsolutePath();
+        if (attribution.isSource(path)) {
+            throw new Refusal(Options.CANNOT_WRITE, "cannot write into " + folder + ": a source would be lost");
+        }
         Files.createDirectories(path.getParent());
         Files.writeString(path, copy.between(0, source.text().length(), List.copyOf(unit.getTypeDecls())));
     }

@@ -11,12 +11,16 @@ import atomic.java.skeleton.Value;
 import com.sun.source.tree.MethodTree;
 import com.sun.source.tree.ReturnTree;
 import com.sun.source.tree.Tree;
+import java.util.ArrayList;
 import java.util.Collection;
+import java.util.HashMap;
 import java.util.HashSet;
 import java.util.LinkedHashMap;
 import java.util.List;
 import java.util.Map;
 import java.util.Set;
+import java.util.function.Consumer;
+import java.util.stream.Collectors;
 
 /**
  * Objects of the sources that a method which is asked to be atomic gives its caller, and that others change later, two fields
@@ -49,20 +53,28 @@ final class LiveObjects {
 
     /** Where all methods are written: only what others change in one region, two fields of it, may be seen in halves. */
     void finish(Collection<Method> all) {
+        Map<Shape, List<Method>> homes = all.stream().collect(Collectors.groupingBy(Method::owner));
+        Map<Shape, List<Set<Field>>> together = given.isEmpty() ? Map.of() : together(all);
         given.forEach((type, givers) -> {
             Set<Field> shown = new HashSet<>();
-            all.stream().filter(each -> each.owner() == type.shape() && services.methods().origin(each) instanceof JavaMethod java
-                && java.isCallable() && !java.isConstructor()).forEach(each -> shown(each.body(), type.shape(), shown));
-            if (all.stream().anyMatch(each -> each.owner() != type.shape() && changesTwo(each.body(), shown))) {
-                Method way = services.blank("whoever is given this " + type.symbol().getSimpleName(), Method.Doubt.ANY);
-                services.fill(way, true);
-                givers.values().forEach(each -> services.hint(each, "live object: the caller may look at two fields of this "
-                    + type.symbol().getSimpleName() + " one by one, while others change both in one region"));
-                all.stream().filter(each -> givers.containsKey(services.methods().origin(each))).forEach(each ->
-                    each.body(Part.sequence(List.of(each.body(), new Part.Call(new Value.Opaque(services.program().helpers()), way,
-                        List.of(), services.attribution().name(givers.get(services.methods().origin(each))))))));
+            homes.getOrDefault(type.shape(), List.of()).stream().filter(each -> services.methods().origin(each)
+                instanceof JavaMethod java && java.isCallable() && !java.isConstructor())
+                .forEach(each -> shown(each.body(), type.shape(), shown));
+            if (together.getOrDefault(type.shape(), List.of()).stream()
+                    .anyMatch(each -> each.stream().filter(shown::contains).count() > 1)) {
+                refuse(type, givers, all);
             }
         });
+    }
+
+    private void refuse(JavaClass type, Map<JavaMethod, Tree> givers, Collection<Method> all) {
+        Method way = services.blank("whoever is given this " + type.symbol().getSimpleName(), Method.Doubt.ANY);
+        services.fill(way, true);
+        givers.values().forEach(each -> services.hint(each, "live object: the caller may look at two fields of this "
+            + type.symbol().getSimpleName() + " one by one, while others change both in one region"));
+        all.stream().filter(each -> givers.containsKey(services.methods().origin(each))).forEach(each ->
+            each.body(Part.sequence(List.of(each.body(), new Part.Call(new Value.Opaque(services.program().helpers()), way,
+                List.of(), services.attribution().name(givers.get(services.methods().origin(each))))))));
     }
 
     /** The plain fields of an object that its own methods look at while they hold no lock. */
@@ -74,18 +86,34 @@ final class LiveObjects {
         }
     }
 
-    private static boolean changesTwo(Part part, Set<Field> fields) {
-        Set<Field> changed = new HashSet<>();
-        if (part instanceof Part.Region) {
-            changes(part, fields, changed);
-        }
-        return changed.size() > 1 || part.parts().stream().anyMatch(each -> changesTwo(each, fields));
+    /** By class, those of its fields that a region changes in a method of another class, where they are two or more. */
+    private static Map<Shape, List<Set<Field>>> together(Collection<Method> all) {
+        Map<Shape, List<Set<Field>>> together = new HashMap<>();
+        all.forEach(each -> regions(each.body(), region -> {
+            Map<Shape, Set<Field>> changed = new HashMap<>();
+            changes(region, changed);
+            changed.forEach((owner, fields) -> {
+                if (owner != each.owner() && fields.size() > 1) {
+                    together.computeIfAbsent(owner, key -> new ArrayList<>()).add(fields);
+                }
+            });
+        }));
+        return together;
     }
 
-    private static void changes(Part part, Set<Field> fields, Set<Field> changed) {
-        if (part instanceof Part.Access access && access.write() && fields.contains(access.field())) {
-            changed.add(access.field());
+    /** The outermost regions: whatever one within them changes, they change too. */
+    private static void regions(Part part, Consumer<Part> found) {
+        if (part instanceof Part.Region) {
+            found.accept(part);
+        } else {
+            part.parts().forEach(each -> regions(each, found));
         }
-        part.parts().forEach(each -> changes(each, fields, changed));
+    }
+
+    private static void changes(Part part, Map<Shape, Set<Field>> changed) {
+        if (part instanceof Part.Access access && access.write()) {
+            changed.computeIfAbsent(access.field().owner(), key -> new HashSet<>()).add(access.field());
+        }
+        part.parts().forEach(each -> changes(each, changed));
     }
 }
