@@ -22,14 +22,14 @@ import javax.lang.model.type.WildcardType;
  * Calls that run code of which nothing is at hand, by the type that it has. Where a class at hand, or a function at hand with
  * any step, may be of that type, the call may run it. A library makes functions of others: {@code first.andThen(second)}.
  */
-final class Brought {
+final class UnknownCode {
     private static final Set<String> TASKS = Set.of("java.lang.Runnable", "java.util.concurrent.Callable");
 
     private final Services services;
     private final Map<Method, TypeMirror> asked = new LinkedHashMap<>();
     private final Map<Tree, Method> standing = new LinkedHashMap<>();
 
-    Brought(Services services) {
+    UnknownCode(Services services) {
         this.services = services;
     }
 
@@ -76,7 +76,7 @@ final class Brought {
 
     private static boolean hasStep(Part part) {
         return part instanceof Part.Access || part instanceof Part.Call || part instanceof Part.Region
-            || part.parts().stream().anyMatch(Brought::hasStep);
+            || part.parts().stream().anyMatch(UnknownCode::hasStep);
     }
 
     private boolean mayBe(Tree function, TypeMirror wanted) {
