@@ -36,7 +36,7 @@ public final class Makings {
     public List<ExpressionTree> given(VariableElement field) {
         JavaClass home = program.find(field.getEnclosingElement());
         Set<Modifier> modifiers = field.getModifiers();
-        boolean hidden = home != null && home.symbol().getModifiers().contains(Modifier.PRIVATE)
+        boolean hidden = home != null && program.overriding().below(home).size() <= 1 && home.symbol().getModifiers().contains(Modifier.PRIVATE)
             && modifiers.contains(Modifier.FINAL) && !modifiers.contains(Modifier.STATIC) && !uses.isReflected(field);
         Set<VariableElement> sources = hidden ? sources(field, home.symbol()) : null;
         return sources == null || sources.isEmpty() ? null : arguments(sources);

@@ -120,6 +120,11 @@ final class Services {
         return changed.add(field);
     }
 
+    /** Whether what a field holds is changed by its name somewhere. */
+    boolean isChanged(VariableElement field) {
+        return changed.contains(field);
+    }
+
     Cursors cursors() {
         return cursors;
     }

@@ -8,6 +8,7 @@ import com.sun.source.tree.ExpressionTree;
 import com.sun.source.tree.MethodInvocationTree;
 import com.sun.source.tree.NewClassTree;
 import com.sun.source.tree.Tree;
+import com.sun.source.util.TreeScanner;
 import java.util.LinkedHashMap;
 import java.util.List;
 import java.util.Map;
@@ -46,7 +47,21 @@ final class UnknownCode {
     /** Whether such a call is given a collection or an array that isn't its caller's own: then it may look at it later. */
     boolean handsOut(List<? extends ExpressionTree> arguments) {
         return arguments.stream().map(Uses::bare).anyMatch(each -> services.attribution().type(each) != null
-            && services.program().library().hasContents(services.attribution().type(each)) && !isOwn(each));
+            && services.program().library().hasContents(services.attribution().type(each)) && !isOwn(each) || leaves(each));
+    }
+
+    /** Whether what a field holds gets out in an expression, such as the making of an object that keeps it. */
+    private boolean leaves(ExpressionTree tree) {
+        boolean[] found = new boolean[1];
+        new TreeScanner<Void, Void>() {
+            @Override
+            public Void scan(Tree each, Void nothing) {
+                found[0] |= each instanceof ExpressionTree && services.attribution().element(each) instanceof VariableElement field
+                    && field.getKind().isField() && services.ownership().exits(field).contains(each);
+                return found[0] ? null : super.scan(each, nothing);
+            }
+        }.scan(tree, null);
+        return found[0];
     }
 
     /** Whether an object is a new one, one that never changes, or what the method was given. */
@@ -69,9 +84,9 @@ final class UnknownCode {
     }
 
     private boolean isBrought(TypeMirror type) {
-        return type instanceof DeclaredType declared && (services.program().find(type) != null
-            || !services.program().overriding().isAtHand(declared.asElement())
-            && standing.entrySet().stream().noneMatch(each -> hasStep(each.getValue().body()) && mayBe(each.getKey(), type)));
+        boolean own = services.program().find(type) != null;
+        return type instanceof DeclaredType declared && (own || !services.program().overriding().isAtHand(declared.asElement()))
+            && standing.entrySet().stream().noneMatch(each -> hasStep(each.getValue().body()) && mayBe(each.getKey(), type));
     }
 
     private static boolean hasStep(Part part) {
