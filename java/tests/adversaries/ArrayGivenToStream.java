@@ -28,7 +28,7 @@ class ArrayGivenToStream {
 class ArrayFilledByStream {
     private final char[] signs = new char[9];
 
-    void fill(Reader source) throws IOException {
+    void fill(Reader source) throws IOException { // refused: it is filled without the lock
         source.read(signs, 0, signs.length);
     }
 
@@ -38,7 +38,7 @@ class ArrayFilledByStream {
         signs[8] = first;
     }
 
-    /* atomic */ synchronized int ends() { // refused: it is filled without the lock
+    /* atomic */ synchronized int ends() { // accepted
         return signs[0] + signs[8];
     }
 }

@@ -68,12 +68,12 @@ class ChangedWithoutLock {
         return count + count;
     }
 
-    public synchronized int thrice() { // refused
-        return count + count + count;
-    }
-
     public void reset() { // accepted
         count = 0;
+    }
+
+    public void restart() { // accepted
+        count = 1;
     }
 }
 

@@ -93,11 +93,11 @@ public class SettlementLedger {
         }
     }
 
-    public long balance(String account) { // refused: alarm: the expert sees no interruption
+    public long balance(String account) { // accepted
         return book.get().balanceOf(account);
     }
 
-    public long total() { // refused: alarm: the expert sees no interruption
+    public long total() { // accepted
         return book.get().balances().values().stream().mapToLong(Long::longValue).sum();
     }
 
@@ -105,7 +105,7 @@ public class SettlementLedger {
         return total() == book.get().entries().stream().mapToLong(Entry::cents).sum();
     }
 
-    public List<Entry> history(String account) { // refused: alarm: the expert sees no interruption
+    public List<Entry> history(String account) { // accepted
         return book.get().entries().stream().filter(e -> e.account().equals(account)).toList();
     }
 

@@ -48,6 +48,11 @@ public final class Brought {
         attribution = program.attribution();
     }
 
+    /** What the objects of private classes are made of, which nobody outside brings. */
+    public Makings makings() {
+        return new Makings(program, uses, sites);
+    }
+
     /**
      * What the collection in a field may be, where code outside brings it: its most general type that has contents, with a
      * question mark for each type that a caller chooses. Two fields may have the same collection where this is equal. Else null.

@@ -2,6 +2,7 @@ package atomic.java.passes;
 
 import atomic.java.places.Names;
 import atomic.java.places.Notes;
+import atomic.java.program.JavaMethod;
 import atomic.java.skeleton.Field;
 import atomic.java.skeleton.Method;
 import atomic.java.skeleton.Part;
@@ -22,8 +23,8 @@ import java.util.stream.IntStream;
 
 /**
  * Guards of fields that say none. A lock that each access of a field holds guards it. One that each write holds and most
- * looks too guards it all the same: a look without it is told as an error, and what is said of other methods holds once that
- * one is mended. One that each write holds and few looks guards the writes alone. With {@code majority} one that most
+ * looks too guards it all the same, and so does one that nearly all accesses hold: an access without it is told as an error,
+ * and what is said of other methods holds once that one is mended. One that each write holds and few looks guards the writes alone. With {@code majority} one that most
  * accesses hold guards a field, whether they write or not.
  */
 public final class Inference {
@@ -48,6 +49,8 @@ public final class Inference {
         private int all;
         private final Map<Place, Set<List<Field>>> places = new LinkedHashMap<>();
         private int writes;
+        /** The locks at each access of a constructor, whose object others may know by then. */
+        private final Set<Set<List<Field>>> making = new HashSet<>();
         /** The locks at each access that may hold one more under another name. */
         private final Set<Set<List<Field>>> doubtful = new HashSet<>();
         private final Map<List<Field>, Integer> held = new HashMap<>();
@@ -83,9 +86,10 @@ public final class Inference {
         tallies.forEach((field, tally) -> {
             List<Field> lock = field.mayBeGuarded() || sure && field.ordered() ? best(field, tally.held, tally.all) : null;
             List<Field> writing = lock == null ? best(field, tally.heldWriting, tally.writes) : null;
-            boolean most = writing != null && isMost(field, tally, writing);
-            if (lock != null || most) {
-                field.guard(new Field.Guard(most ? writing : lock, false));
+            boolean most = writing != null && isMost(field, tally, writing, MOST_OF_RACE);
+            List<Field> charged = most ? writing : lock == null && writing == null ? mostly(field, tally) : null;
+            if (lock != null || charged != null) {
+                field.guard(new Field.Guard(charged != null ? charged : lock, false));
             } else if (writing != null) {
                 field.guard(new Field.Guard(writing, true));
                 field.changesWhole(sure);
@@ -93,27 +97,36 @@ public final class Inference {
             if (lock == null && field.mayBeGuarded() && field.place() != null) {
                 races(field, tally, shown, notes);
             }
-            if (most) {
-                mended(field, tally.open(writing), shown, notes);
+            if (charged != null) {
+                mended(field, tally.open(charged), most ? "looks at " : "changes of ", shown, notes);
             }
         });
     }
 
-    /**
-     * Whether most accesses of a field hold the lock that all its writes hold, and the others surely don't, so that a look
-     * without it is an error.
-     */
-    private boolean isMost(Field field, Tally tally, List<Field> lock) {
-        return !strict && field.mayBeGuarded() && field.place() != null && !field.isOfOne()
-            && tally.doubtful.stream().allMatch(each -> each.contains(lock))
-            && 100 * tally.held.getOrDefault(lock, 0) >= MOST_OF_RACE * tally.all;
+    /** The lock that nearly all accesses of a field hold, changes among them, and the others surely don't; else null. */
+    private List<Field> mostly(Field field, Tally tally) {
+        return tally.held.entrySet().stream().filter(each -> isNamed(each.getKey(), field)
+            && tally.making.stream().allMatch(one -> one.contains(each.getKey()))
+            && isMost(field, tally, each.getKey(), MOST) && 100 * tally.heldWriting.getOrDefault(each.getKey(), 0)
+                >= MOST_OF_RACE * tally.writes).map(Map.Entry::getKey)
+            .min((one, other) -> one.equals(other) ? 0 : isBefore(one, other) ? -1 : 1).orElse(null);
     }
 
-    /** What is said of the methods that touch a field rests on the looks without its lock, which are told as errors. */
-    private void mended(Field field, Place look, Names names, Notes notes) {
+    /**
+     * Whether so many in a hundred accesses of a field hold a lock, and the others surely don't, so that one without it is an
+     * error.
+     */
+    private boolean isMost(Field field, Tally tally, List<Field> lock, int many) {
+        return !strict && field.mayBeGuarded() && field.place() != null && !field.isOfOne()
+            && tally.doubtful.stream().allMatch(each -> each.contains(lock))
+            && 100 * tally.held.getOrDefault(lock, 0) >= many * tally.all;
+    }
+
+    /** What is said of the methods that touch a field rests on what touches it without its lock, which is told as an error. */
+    private void mended(Field field, Place place, String what, Names names, Notes notes) {
         methods.stream().filter(each -> touches(each.body(), field)).forEach(each ->
-            notes.tell(Notes.Kind.ASSUMED, origin.apply(each), look == null ? field.place() : look,
-                "looks at " + names.shown(field.name()) + " without its lock are mended: what is said of other methods rests on"
+            notes.tell(Notes.Kind.ASSUMED, origin.apply(each), place == null ? field.place() : place,
+                what + names.shown(field.name()) + " without its lock are mended: what is said of other methods rests on"
                     + " that"));
     }
 
@@ -166,6 +179,9 @@ public final class Inference {
         }
         if (!isCertain(method, access, held)) {
             tally.doubtful.add(here);
+        }
+        if (origin.apply(method) instanceof JavaMethod java && java.isConstructor()) {
+            tally.making.add(here);
         }
     }
 

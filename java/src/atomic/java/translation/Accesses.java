@@ -72,7 +72,12 @@ final class Accesses {
         VariableElement source = LockViews.source(field, services.fields());
         boolean settled = services.fields().isSettled(source);
         boolean owned = services.fields().owns(field);
-        if (settled && !owned && services.families().shape(source.asType()) == null) {
+        if (!owned) {
+            services.exits().leave(field, at, body);
+        }
+        if (settled && !owned && services.immutables().isGiven(source)) {
+            return services.fields().unchanging(source);
+        } else if (settled && !owned && services.families().shape(source.asType()) == null) {
             return Value.OPAQUE;
         }
         Fields.Home home = services.fields().home(source);

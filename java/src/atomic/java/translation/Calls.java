@@ -57,7 +57,7 @@ final class Calls {
         List<Value> arguments = arguments(method, tree.getArguments());
         invoke(method, receiver, arguments, tree);
         if (method.isAbstract() && !services.program().overriding().isOverridden(method)
-                && services.functions().brought().handsOut(tree.getArguments())) {
+                && services.functions().unknownCode().handsOut(tree.getArguments())) {
             body.emit(services.doubt(Method.Doubt.ANY, method.symbol().getSimpleName().toString(), true, body, tree,
                 "unknown call: code that isn't at hand is given a collection here, and may look at it later"));
         }

@@ -36,6 +36,7 @@ final class Exits {
     private final Services services;
     private final Map<VariableElement, Boolean> known = new HashMap<>();
     private final Map<VariableElement, Method> ways = new LinkedHashMap<>();
+    private final Map<VariableElement, Method> left = new LinkedHashMap<>();
     private final Map<VariableElement, List<Tree>> places = new LinkedHashMap<>();
     private final Map<JavaClass, Method> walkers = new LinkedHashMap<>();
 
@@ -78,6 +79,25 @@ final class Exits {
         }
     }
 
+    /** The same of a field whose object gets out in other ways too, where a method that is asked gives it back within another. */
+    void leave(VariableElement field, Tree use, Body body) {
+        if (!areTold(field) && isGivenBack(use) && services.ownership().exits(field).contains(use)
+                && isAsked(services.program().around(use))) {
+            Method way = left.computeIfAbsent(field, key -> services.blank("whoever is given what " + key.getSimpleName()
+                + " holds", Method.Doubt.ANY));
+            body.emit(new Part.Call(new Value.Opaque(services.program().helpers()), way, List.of(),
+                services.attribution().name(use)));
+        }
+    }
+
+    private boolean isGivenBack(Tree use) {
+        Tree each = use;
+        while (each instanceof ExpressionTree) {
+            each = services.attribution().parent(each);
+        }
+        return each instanceof ReturnTree;
+    }
+
     /** Writes what becomes of an iterator of the sources that a method makes for its caller. */
     void give(NewClassTree made, Body body) {
         Element type = made.getClassBody() == null ? services.attribution().element(made) : services.attribution()
@@ -116,6 +136,11 @@ final class Exits {
 
     /** Where all methods are written: what nobody changes doesn't matter. */
     void finish(Collection<Method> all) {
+        left.forEach((field, way) -> {
+            if (services.isChanged(field)) {
+                services.fill(way, true);
+            }
+        });
         if (ways.isEmpty() && walkers.isEmpty()) {
             return;
         }

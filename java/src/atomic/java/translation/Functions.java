@@ -64,16 +64,16 @@ final class Functions {
     private final Map<VariableElement, ExpressionTree> bound = new HashMap<>();
     private final Map<Apart, Integer> told = new HashMap<>();
     private int bindings;
-    private final Brought brought;
+    private final UnknownCode unknownCode;
 
     Functions(Services services) {
         this.services = services;
-        brought = new Brought(services);
+        unknownCode = new UnknownCode(services);
     }
 
     /** Calls of code that others bring. */
-    Brought brought() {
-        return brought;
+    UnknownCode unknownCode() {
+        return unknownCode;
     }
 
     /** The functions that stand for objects of an interface of the sources. */
@@ -244,7 +244,7 @@ final class Functions {
             mentioned(function, around);
             if (first) {
                 services.methods().later(() -> method.body(body.collect(() -> inline(function, body))));
-                brought.stands(function, method);
+                unknownCode.stands(function, method);
             }
         }
         if (outermost) {
@@ -324,7 +324,7 @@ final class Functions {
         TypeMirror type = services.attribution().type(function);
         String shown = "a function that isn't known";
         String why = "unknown call: a function that isn't known may do anything";
-        return brought.takesContents(type) ? services.doubt(Method.Doubt.ANY, shown, true, body, function, why)
+        return unknownCode.takesContents(type) ? services.doubt(Method.Doubt.ANY, shown, true, body, function, why)
             : services.brought(Method.Doubt.ANY, shown, type, function, why);
     }
 

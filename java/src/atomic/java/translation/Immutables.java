@@ -13,6 +13,7 @@ import java.util.Map;
 import java.util.Set;
 import javax.lang.model.element.Element;
 import javax.lang.model.element.ElementKind;
+import javax.lang.model.element.ExecutableElement;
 import javax.lang.model.element.VariableElement;
 
 /**
@@ -30,6 +31,7 @@ final class Immutables {
 
     private final Services services;
     private final Map<VariableElement, Boolean> references = new HashMap<>();
+    private final Map<VariableElement, Boolean> given = new HashMap<>();
 
     Immutables(Services services) {
         this.services = services;
@@ -49,6 +51,10 @@ final class Immutables {
         ExpressionTree bare = Uses.bare(tree);
         Element symbol = services.attribution().element(bare);
         if (bare instanceof MethodInvocationTree call && call.getMethodSelect() instanceof MemberSelectTree select) {
+            VariableElement component = component(call);
+            if (component != null) {
+                return isGiven(component) ? component : null;
+            }
             boolean looks = call.getArguments().isEmpty() && LOOKS.contains(select.getIdentifier().toString());
             return looks && services.attribution().element(Uses.bare(select.getExpression())) instanceof VariableElement field
                 && isReference(field) ? field : null;
@@ -60,7 +66,33 @@ final class Immutables {
             return given(variable, depth);
         }
         return variable.getKind().isField() && services.program().find(variable.getEnclosingElement()) != null
-            && !services.uses().isReflected(variable) && MADE.equals(services.ownership().made(variable)) ? variable : null;
+            && !services.uses().isReflected(variable) && (MADE.equals(services.ownership().made(variable)) || isGiven(variable))
+            ? variable : null;
+    }
+
+    /** The field that a call of a record's accessor gives, which nobody wrote; else null. */
+    private VariableElement component(MethodInvocationTree call) {
+        return services.attribution().element(call) instanceof ExecutableElement symbol && services.program().isAccessor(symbol)
+            ? symbol.getEnclosingElement().getEnclosedElements().stream().filter(each -> each.getKind() == ElementKind.FIELD
+                && each.getSimpleName().equals(symbol.getSimpleName())).map(VariableElement.class::cast).findFirst().orElse(null)
+            : null;
+    }
+
+    /** Whether all makings of a field's class give it a collection that never changes. */
+    boolean isGiven(VariableElement field) {
+        Boolean known = given.get(field);
+        if (known == null) {
+            // What an object hands on to the next one is its own.
+            given.put(field, true);
+            List<ExpressionTree> all = services.program().library().hasContents(field.asType())
+                ? services.ownership().brought().makings().given(field) : null;
+            known = all != null && !all.isEmpty() && all.stream().allMatch(each -> isMade(each, 0));
+            if (!known) {
+                given.values().removeIf(each -> each);
+            }
+            given.put(field, known);
+        }
+        return known;
     }
 
     /** A local that is only ever given what such references hold. */

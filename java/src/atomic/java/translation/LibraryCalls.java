@@ -276,7 +276,7 @@ final class LibraryCalls {
     private void unknown(Called called) {
         if (called.at() instanceof MethodInvocationTree call && call.getMethodSelect() instanceof MemberSelectTree select
                 && services.functions().isFunction(select.getExpression())
-                && !services.functions().brought().handsOut(call.getArguments())) {
+                && !services.functions().unknownCode().handsOut(call.getArguments())) {
             body.emit(services.brought(Method.Doubt.ANY, called.shown(), services.attribution().type(select.getExpression()),
                 called.at(), "unknown call: " + called.shown() + " runs a function that isn't known, so it counts as several steps"));
         } else {

@@ -13,6 +13,7 @@ import com.sun.source.tree.MemberSelectTree;
 import com.sun.source.tree.MethodInvocationTree;
 import com.sun.source.tree.MethodTree;
 import com.sun.source.tree.ReturnTree;
+import java.util.HashMap;
 import java.util.HashSet;
 import java.util.LinkedHashMap;
 import java.util.List;
@@ -24,13 +25,14 @@ import javax.lang.model.type.TypeMirror;
 
 /**
  * Collections and arrays within a collection of a field, such as the lists in a map of lists. A method that is asked to be
- * atomic and gives its caller such a one, or what shows it, is refused where some code at hand changes one of that type: who
- * has it looks at it later, step by step and without a lock.
+ * atomic and gives its caller such a one, or what shows it, is refused where some code of its file changes one of that type:
+ * who has it looks at it later, step by step and without a lock.
  */
 final class LiveContents {
     private final Services services;
     private final Map<ExpressionTree, Method> given = new LinkedHashMap<>();
-    private final Set<TypeMirror> changed = new HashSet<>();
+    /** The types of what is changed in each file. */
+    private final Map<String, Set<TypeMirror>> changed = new HashMap<>();
 
     LiveContents(Services services) {
         this.services = services;
@@ -40,7 +42,7 @@ final class LiveContents {
     void changes(ExpressionTree object) {
         TypeMirror type = services.attribution().type(object);
         if (type != null) {
-            changed.add(services.attribution().types().erasure(type));
+            changed.computeIfAbsent(file(object), key -> new HashSet<>()).add(services.attribution().types().erasure(type));
         }
     }
 
@@ -93,12 +95,16 @@ final class LiveContents {
     /** Where all methods are written: what nobody changes may be given to anybody. */
     void finish() {
         given.forEach((shown, way) -> {
-            if (changed.stream().anyMatch(each -> mayBe(each, services.attribution().type(shown)))) {
+            if (changed.getOrDefault(file(shown), Set.of()).stream().anyMatch(each -> mayBe(each, services.attribution().type(shown)))) {
                 services.fill(way, true);
                 services.hint(shown, "object of others: what is found here gets out, so that others may touch it without any"
                     + " lock");
             }
         });
+    }
+
+    private String file(ExpressionTree tree) {
+        return services.attribution().place(tree).file();
     }
 
     private boolean mayBe(TypeMirror one, TypeMirror other) {

@@ -120,6 +120,11 @@ final class Services {
         return changed.add(field);
     }
 
+    /** Whether what a field holds is changed by its name somewhere. */
+    boolean isChanged(VariableElement field) {
+        return changed.contains(field);
+    }
+
     Cursors cursors() {
         return cursors;
     }
@@ -141,7 +146,7 @@ final class Services {
 
     /** Where all methods are written: what is only known then. */
     void finish(Collection<Method> all) {
-        functions.brought().settle();
+        functions.unknownCode().settle();
         exits.finish(all);
         liveObjects.finish(all);
         liveContents.finish();
@@ -188,7 +193,7 @@ final class Services {
     Part brought(Method.Doubt doubt, String shown, TypeMirror type, Tree at, String why) {
         Part.Call call = helper(shown, "brought as " + type, doubt, program.attribution().name(at));
         call.target().unknown(why);
-        functions.brought().asks(call.target(), type);
+        functions.unknownCode().asks(call.target(), type);
         return call;
     }
 

@@ -8,6 +8,7 @@ import com.sun.source.tree.ExpressionTree;
 import com.sun.source.tree.MethodInvocationTree;
 import com.sun.source.tree.NewClassTree;
 import com.sun.source.tree.Tree;
+import com.sun.source.util.TreeScanner;
 import java.util.LinkedHashMap;
 import java.util.List;
 import java.util.Map;
@@ -22,14 +23,14 @@ import javax.lang.model.type.WildcardType;
  * Calls that run code of which nothing is at hand, by the type that it has. Where a class at hand, or a function at hand with
  * any step, may be of that type, the call may run it. A library makes functions of others: {@code first.andThen(second)}.
  */
-final class Brought {
+final class UnknownCode {
     private static final Set<String> TASKS = Set.of("java.lang.Runnable", "java.util.concurrent.Callable");
 
     private final Services services;
     private final Map<Method, TypeMirror> asked = new LinkedHashMap<>();
     private final Map<Tree, Method> standing = new LinkedHashMap<>();
 
-    Brought(Services services) {
+    UnknownCode(Services services) {
         this.services = services;
     }
 
@@ -46,7 +47,21 @@ final class Brought {
     /** Whether such a call is given a collection or an array that isn't its caller's own: then it may look at it later. */
     boolean handsOut(List<? extends ExpressionTree> arguments) {
         return arguments.stream().map(Uses::bare).anyMatch(each -> services.attribution().type(each) != null
-            && services.program().library().hasContents(services.attribution().type(each)) && !isOwn(each));
+            && services.program().library().hasContents(services.attribution().type(each)) && !isOwn(each) || leaves(each));
+    }
+
+    /** Whether what a field holds gets out in an expression, such as the making of an object that keeps it. */
+    private boolean leaves(ExpressionTree tree) {
+        boolean[] found = new boolean[1];
+        new TreeScanner<Void, Void>() {
+            @Override
+            public Void scan(Tree each, Void nothing) {
+                found[0] |= each instanceof ExpressionTree && services.attribution().element(each) instanceof VariableElement field
+                    && field.getKind().isField() && services.ownership().exits(field).contains(each);
+                return found[0] ? null : super.scan(each, nothing);
+            }
+        }.scan(tree, null);
+        return found[0];
     }
 
     /** Whether an object is a new one, one that never changes, or what the method was given. */
@@ -69,14 +84,14 @@ final class Brought {
     }
 
     private boolean isBrought(TypeMirror type) {
-        return type instanceof DeclaredType declared && (services.program().find(type) != null
-            || !services.program().overriding().isAtHand(declared.asElement())
-            && standing.entrySet().stream().noneMatch(each -> hasStep(each.getValue().body()) && mayBe(each.getKey(), type)));
+        boolean own = services.program().find(type) != null;
+        return type instanceof DeclaredType declared && (own || !services.program().overriding().isAtHand(declared.asElement()))
+            && standing.entrySet().stream().noneMatch(each -> hasStep(each.getValue().body()) && mayBe(each.getKey(), type));
     }
 
     private static boolean hasStep(Part part) {
         return part instanceof Part.Access || part instanceof Part.Call || part instanceof Part.Region
-            || part.parts().stream().anyMatch(Brought::hasStep);
+            || part.parts().stream().anyMatch(UnknownCode::hasStep);
     }
 
     private boolean mayBe(Tree function, TypeMirror wanted) {
