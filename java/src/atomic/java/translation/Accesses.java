@@ -91,17 +91,22 @@ final class Accesses {
             new Lazies(services).note(field, false, at);
         }
         if (owned) {
-            Fields.Home contents = services.fields().contents(field);
-            Value inside = holder(field, contents, receiver);
-            Path own = settled && home.field().type() != null ? behind(holder, home.field()).path() : null;
-            services.exits().write(field, at, body);
-            if (inside instanceof Value.Fresh) {
-                services.functions().compare(services.fields().comparing(contents.field()), body, at);
-                return new Value.Fresh(null);
-            }
-            return new Value.Owned(inside, contents.field(), own);
+            return contents(field, receiver, home.field(), settled ? holder : null, at);
         }
         return settled ? behind(holder, home.field()) : new Value.Opaque(home.field().type());
+    }
+
+    /** What a field holds whose contents are a part of it; {@code holder} has the field, where that names one object. */
+    private Value contents(VariableElement field, Value receiver, Field itself, Value holder, Tree at) {
+        Fields.Home contents = services.fields().contents(field);
+        Value inside = holder(field, contents, receiver);
+        Path own = holder != null && itself.type() != null ? behind(holder, itself).path() : null;
+        services.exits().write(field, at, body);
+        if (inside instanceof Value.Fresh) {
+            services.functions().compare(services.fields().comparing(contents.field()), body, at);
+            return new Value.Fresh(null);
+        }
+        return new Value.Owned(inside, contents.field(), own);
     }
 
     /** Whether this is a second look at a flag that never goes back, which may tell nothing new; that is told. */

@@ -29,13 +29,10 @@ import java.util.function.Predicate;
 import javax.lang.model.element.ElementKind;
 import javax.lang.model.element.Modifier;
 import javax.lang.model.element.VariableElement;
+import javax.lang.model.type.TypeMirror;
 
 /** The skeleton's fields: which one stands for a Java field, and for the contents of what it holds. */
 public final class Fields {
-
-    private static final List<String> LOCKS = List.of("java.util.concurrent.locks.Lock",
-        "java.util.concurrent.locks.ReadWriteLock", "java.util.concurrent.locks.StampedLock",
-        "java.util.concurrent.locks.Condition");
 
     /** Whose field it is in the skeleton. */
     public enum Holder { OBJECT, STATICS, CONTAINER }
@@ -44,6 +41,7 @@ public final class Fields {
     public record Home(Field field, Holder holder) { }
 
     private final Program program;
+    private final FieldTypes types;
     private final Families families;
     private final Uses uses;
     private final Ownership ownership;
@@ -64,6 +62,7 @@ public final class Fields {
     Fields(Program program, Families families, Uses uses, Ownership ownership, Nodes nodes, Predicate<VariableElement> told) {
         this.told = told;
         this.program = program;
+        types = new FieldTypes(program);
         this.families = families;
         this.uses = uses;
         this.ownership = ownership;
@@ -158,43 +157,35 @@ public final class Fields {
         if (holder == Holder.CONTAINER) {
             field.standForNodes();
         }
+        describe(field, java, owner, wish);
+        return new Home(field, holder);
+    }
+
+    /** Notes of a new field what the Java field and its type say. */
+    private void describe(Field field, VariableElement java, JavaClass owner, Wish wish) {
         Tree tree = uses.declaration(java);
         field.place(tree == null ? null : program.attribution().name(tree));
         boolean contents = !wish.name().contentEquals(java.getSimpleName());
         if (contents) {
             field.standForContents();
         }
-        if (isLock(java.asType())) {
+        if (types.isLock(java.asType())) {
             field.standForLock();
         }
         if (wish.fixed() && ownership.made(java) != null) {
             field.holdsOwn();
         }
         if (java.getModifiers().contains(Modifier.PRIVATE) && owner.methods().stream().noneMatch(JavaMethod::isNative)
-                && !isCopied(owner)) {
+                && !types.isCopied(owner)) {
             field.hide();
         }
         boolean isVolatile = java.getModifiers().contains(Modifier.VOLATILE);
         if (isVolatile && !contents) {
             field.order();
         }
-        if (contents ? isWide(elementType(java)) || holdsContents(elementType(java))
-                : isWide(java.asType()) && !isVolatile && !program.sure()) {
+        if (contents ? types.hasWideElements(java) : types.isWide(java.asType()) && !isVolatile && !program.sure()) {
             field.widen();
         }
-        return new Home(field, holder);
-    }
-
-    /** Whether objects of a class may be copied field by field, which looks at each field without a word of it. */
-    private boolean isCopied(JavaClass owner) {
-        return program.attribution().types().isSubtype(program.attribution().types().erasure(owner.symbol().asType()),
-            program.attribution().elements().getTypeElement("java.lang.Cloneable").asType());
-    }
-
-    /** Numbers of 64 bits are written in two halves. */
-    private static boolean isWide(javax.lang.model.type.TypeMirror type) {
-        return type.getKind() == javax.lang.model.type.TypeKind.LONG
-            || type.getKind() == javax.lang.model.type.TypeKind.DOUBLE;
     }
 
     /** Whether a class above or below has a field of this name, which in a skeleton it may not. */
@@ -206,10 +197,8 @@ public final class Fields {
     /** The field that stands for one of a library's class, in the class furthest up that has it; with a type it is final. */
     Field inherited(VariableElement java, JavaClass heir, Shape type) {
         JavaClass top = heir;
-        var types = program.attribution().types();
-        for (JavaClass above = families.above(heir); above != null && types.isSubtype(
-                types.erasure(above.symbol().asType()), types.erasure(java.getEnclosingElement().asType()));
-                above = families.above(above)) {
+        for (JavaClass above = families.above(heir); above != null && types.isBelow(above.symbol().asType(),
+                java.getEnclosingElement().asType()); above = families.above(above)) {
             top = above;
         }
         Shape home = top.shape();
@@ -262,7 +251,7 @@ public final class Fields {
         JavaClass container = nodes.container(node);
         Guards.Lock found = null;
         for (var member : container.symbol().getEnclosedElements()) {
-            if (member instanceof VariableElement field && leadsTo(field.asType(), node)) {
+            if (member instanceof VariableElement field && types.leadsTo(field.asType(), node)) {
                 Guards.Lock one = guards.of(field);
                 if (one == null && !isSettled(field) || one != null && found != null && !found.equals(one)) {
                     return null;
@@ -271,27 +260,6 @@ public final class Fields {
             }
         }
         return found;
-    }
-
-    /** Whether a type is the node's, or an array or a collection of such. */
-    private boolean leadsTo(javax.lang.model.type.TypeMirror type, JavaClass node) {
-        if (type instanceof javax.lang.model.type.ArrayType array) {
-            return leadsTo(array.getComponentType(), node);
-        }
-        return program.find(type) == node || type instanceof javax.lang.model.type.DeclaredType declared
-            && declared.getTypeArguments().stream().anyMatch(each -> leadsTo(each, node));
-    }
-
-    /** Whether what an array holds has contents of its own; those of a class at hand are its fields, which are judged themselves. */
-    private boolean holdsContents(javax.lang.model.type.TypeMirror element) {
-        JavaClass known = program.find(element);
-        boolean plain = known != null && known.symbol().getSuperclass().toString().equals("java.lang.Object");
-        return !plain && program.library().hasContents(element);
-    }
-
-    private static javax.lang.model.type.TypeMirror elementType(VariableElement field) {
-        return field.asType() instanceof javax.lang.model.type.ArrayType array ? array.getComponentType()
-            : field.asType();
     }
 
     /** Whether a field keeps the value that it gets before its object is known to others. */
@@ -335,12 +303,8 @@ public final class Fields {
     }
 
     /** Whether objects of a type are locks with methods, or belong to such. */
-    boolean isLock(javax.lang.model.type.TypeMirror type) {
-        var types = program.attribution().types();
-        return type != null && type.getKind() == javax.lang.model.type.TypeKind.DECLARED && LOCKS.stream().anyMatch(each -> {
-            var known = program.attribution().elements().getTypeElement(each);
-            return known != null && types.isSubtype(types.erasure(type), types.erasure(known.asType()));
-        });
+    boolean isLock(TypeMirror type) {
+        return types.isLock(type);
     }
 
     /** Whether the contents of what a field holds are its own. */
