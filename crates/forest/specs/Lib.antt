@@ -1,0 +1,2 @@
+-- The definitions that the contract of a walk cites.
+pub mod Walks
