@@ -11,6 +11,7 @@ pub mod Parted
 mod Repeats
 mod Wholes
 mod Alone
+mod Signatures
 mod AlikeLemmas
 mod ClashLemmas
 pub mod OwnLemmas
