@@ -335,3 +335,9 @@ pub off_circle : (tree : ProgramTree) (methods : ℕ → List Heading) (well : L
 off_circle tree methods well k off all =
     ap (λ b. override_faults methods (if b then [] else ancestors_of tree k) (drop (well_at well k) (methods k))) (sym off)
     ∙ rest_faults methods (ancestor_classes tree k) (well_at well k) (methods k) (all k)
+
+pub well_of_walk : (tree : ProgramTree) (above_each seen : List (Option ℕ)) (methods : ℕ → List Heading) (names : List (List ℕ)) (d : LineState) (n : ℕ) (steps taken : List Step) (well start : List ℕ)
+    → above_each ≡ all_above tree → seen ≡ above_each → Leads seen None steps → taken ≡ steps → start ≡ replicate n 0 → well ≡ well_after_all methods names taken d start → AreWell tree methods well
+well_of_walk tree above_each seen methods names d n steps taken well start same seen_is leads taken_is start_is well_is =
+    subst (AreWell tree methods) (sym (well_is ∙ ap (λ s. well_after_all methods names s d start) taken_is ∙ ap (well_after_all methods names steps d) start_is))
+    (walked_well tree seen methods names d n steps (seen_is ∙ same) leads)

@@ -12,7 +12,7 @@ mod Repeats
 mod Wholes
 mod Alone
 mod Signatures
-mod AlikeLemmas
+pub mod AlikeLemmas
 mod ClashLemmas
 pub mod OwnLemmas
 pub mod Leasts

@@ -96,6 +96,16 @@ fn number_in(names: &NameSet, text: &str) -> usize
     }
 }
 
+/// Writes what is known of the name with a number.
+#[tactic(auto, using(crate::proofs::AlikeLemmas::seen_set))]
+fn put<'h, 'p, 'a>(all: &mut Vec<Standing<'h, 'p, 'a>>, number: usize, known: &Standing<'h, 'p, 'a>)
+    ensures { map standing_data all.new.items ≡ slice_set (map standing_data all.old.items) number (standing_data known.now) }
+{
+    if let Some(place) = all.get_mut(number) {
+        *place = *known;
+    }
+}
+
 impl<'h, 'p, 'a> Line<'h, 'p, 'a> {
     /// No names.
     fn new(alloc: Global) -> Line<'h, 'p, 'a> {
@@ -149,13 +159,11 @@ impl<'h, 'p, 'a> Line<'h, 'p, 'a> {
         self.standing_at(number_in(names, name.text))
     }
 
-    fn write(&mut self, number: usize, known: Standing<'h, 'p, 'a>)
-        ensures known { (line_state self.new).known ≡ slice_set (line_state self.old).known number (standing_data known.entry) }
+    fn write(&mut self, number: usize, known: &Standing<'h, 'p, 'a>)
+        ensures known { (line_state self.new).known ≡ slice_set (line_state self.old).known number (standing_data known.now) }
         ensures saved { (line_state self.new).saved ≡ (line_state self.old).saved }
     {
-        if let Some(place) = self.known.get_mut(number) {
-            *place = known;
-        }
+        put(&mut self.known, number, known);
     }
 
     /// How many of these methods, from the first on, override well.
@@ -181,7 +189,7 @@ impl<'h, 'p, 'a> Line<'h, 'p, 'a> {
         let known = self.standing_at(number);
         let next = joined_standing(&known, one);
         self.saved.push(Saved { number, known })?;
-        self.write(number, next);
+        self.write(number, &next);
         Ok(())
     }
 
@@ -200,7 +208,7 @@ impl<'h, 'p, 'a> Line<'h, 'p, 'a> {
         ensures { line_state self.new ≡ left (line_state self.old) }
     {
         if let Some(saved) = self.saved.pop() {
-            self.write(saved.number, saved.known);
+            self.write(saved.number, &saved.known);
         }
     }
 
