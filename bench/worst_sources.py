@@ -24,6 +24,11 @@ bad         the same with an empty method, which the last one alone overrides wi
 all_bad     the same, where each but the first has a result (refused)
 apart       classes as in fresh, and one by itself that has methods of these names with a result
 fields      classes in a line, each of which has a field (refused)
+calls       classes in a line, and as many bytes of calls of the first one's method on an object of the last
+reads       the same with a field that is set in place of a method
+gives       the same, where that object is assigned to a local of the first class
+own_calls   calls, where each class has a method with a name of its own
+unknown     calls, and then the call of a method that no class has (refused)
 sets_calls  methods that call each other, called at each part of eight locks
 sets_rise   methods that are called under more and more levels
 leaf_locks  classes that override one method and lock a field of their own each; it is called many times under a lock
@@ -208,6 +213,32 @@ def fields(count: int) -> str:
     return MAIN + "".join(heirs(count, lambda k: f"int a{k};"))
 
 
+def named_often(count: int, member: str, body: str, more: Callable[[int], str] = lambda k: "") -> str:
+    """Classes in a line, the first of which has this member, and a method with an object of the last."""
+    line = heirs(count, lambda k: more(k) if k else member)
+    return f"class Main{{void main(){{}}void all(final c{count - 1} x){{{body}}}}}\n" + "".join(line)
+
+
+def calls(count: int) -> str:
+    return named_often(count, "void f(){}", "x.f();" * (4 * count))
+
+
+def reads(count: int) -> str:
+    return named_often(count, "int a;", "x.a=1;" * (4 * count))
+
+
+def gives(count: int) -> str:
+    return named_often(count, "", "c0 y=null;" + "y=x;" * (6 * count))
+
+
+def own_calls(count: int) -> str:
+    return named_often(count, "void f(){}", "x.f();" * (4 * count), lambda k: f"void f{k}(){{}}")
+
+
+def unknown(count: int) -> str:
+    return named_often(count, "void f(){}", "x.f();" * (4 * count) + "x.g();")
+
+
 def wide(count: int) -> str:
     methods = "".join(f"void f{k}(){{}}" for k in range(count))
     return MAIN + "".join(heirs(2, lambda k: methods))
@@ -281,6 +312,11 @@ FAMILIES: dict[str, Family] = {
     "all_bad": all_bad,
     "apart": apart,
     "fields": fields,
+    "calls": calls,
+    "reads": reads,
+    "gives": gives,
+    "own_calls": own_calls,
+    "unknown": unknown,
     "sets_calls": make_checked.sets_calls,
     "sets_rise": make_checked.sets_rise,
     "leaf_locks": leaf_locks,

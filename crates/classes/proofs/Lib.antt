@@ -22,6 +22,7 @@ pub mod Faultless
 mod Adding
 mod Counting
 mod Going
+mod Jumping
 mod Tables
 pub mod Higher
 mod Titles

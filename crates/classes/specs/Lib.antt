@@ -17,9 +17,10 @@ pub mod Climbs
 pub mod Families
 pub mod LineViews
 -- For a reader of the contracts, in this order: the table of a tree (Table, Seen), what the code's table is as plain data (Views), and
--- where names are declared (Declarations). Building serves the code.
+-- where names are declared (Declarations). Building and Jumps serve the code.
 pub mod Seen
 pub mod Table
 pub mod Views
 pub mod Building
+pub mod Jumps
 pub mod Declarations

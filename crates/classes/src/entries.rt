@@ -1,8 +1,11 @@
 //! What a class table keeps of its classes, fields, methods and parameters.
 
-ghost use Rattle.std.specs.Prelude.{◌+◌, ◌^◌, ◌<◌, length, nat_lt, IsTrue};
+ghost use Rattle.std.specs.Prelude.{◌+◌, ◌^◌, ◌<◌, length, map, nat_lt, IfSome, IsTrue};
 ghost use Rattle.std.specs.List.{list_all};
+ghost use Rattle.std.proofs.Props.{props};
+ghost use Rattle.classes.specs.Jumps.{AreJumps};
 
+use crate::jumps::Jump;
 use crate::names::NameSet;
 use core_program::CoreType;
 use paths::ClassId;
@@ -72,6 +75,9 @@ pub struct ClassTable<'a> {
     pub(crate) classes: Vec<ClassEntry<'a>>,
     pub(crate) fields: Vec<FieldEntry<'a>>,
     pub(crate) methods: Vec<MethodEntry<'a>>,
+    /// A jump from each class, where no class stands in a circle.
+    pub(crate) jumps: Option<Vec<Jump>>,
     ghost few_classes: { length names < 2 ^ 32 },
     ghost owned: { IsTrue (list_all (λ m. nat_lt m.class (length names)) methods.items) },
+    ghost jumping: { IfSome jumps (λ made. AreJumps (map (λ c. record { above = c.above; runnable = c.runnable; first_field = c.first_field; field_names = c.field_names; first_method = c.first_method; method_names = c.method_names }) classes.items) made.items) } by { Prim.hlevel props },
 }

@@ -13,6 +13,7 @@ mod entries;
 mod family;
 mod fault;
 mod first;
+mod jumps;
 mod laws;
 mod limits;
 mod lookup;

@@ -1,10 +1,12 @@
 //! What a class table tells.
 
-ghost use Rattle.std.specs.Prelude.{◌≡◌, ◌<◌, length, map, slice_get, option_map, is_some, nat_lt};
-ghost use Rattle.classes.specs.Table.{class_number, above_in_table, is_of_kind, own_field, field_number, own_method, method_number, method_title, slot_title, field_in, number_of_own_method, slot_of};
+ghost use Rattle.std.specs.Prelude.{◌≡◌, ◌<◌, ℕ, Option, length, map, slice_get, option_map, is_some, nat_lt};
+ghost use Rattle.classes.specs.Table.{class_number, above_in_table, is_of_kind, own_field, field_number, own_method, method_number, method_title, slot_title, class_and_ancestors, first_found, field_in, number_of_own_method, slot_of};
+ghost use Rattle.classes.specs.Jumps.{AreJumps, AreOfBucket, jump_at};
 ghost use Rattle.classes.specs.Views.{class_data, method_data, table_data};
 
 use crate::entries::{ClassEntry, ClassTable, FieldEntry, MethodEntry};
+use crate::jumps::{Jump, bucket, has_bucket, jump_at};
 use paths::{ClassId, FieldId, MethodId};
 
 impl<'a> ClassEntry<'a> {
@@ -86,6 +88,53 @@ impl<'a> ClassTable<'a> {
     pub fn is_kind_of(&self, class: ClassId, other: ClassId) -> bool
         ensures { result ≡ is_of_kind (table_data self.now) class other }
     {
+        match &self.jumps {
+            Some(jumps) => self.is_kind_by_jumps(jumps.as_slice(), class, other),
+            None => self.is_kind_by_steps(class, other),
+        }
+    }
+
+    /// The class to which as many jumps lead as lead to none with fewer classes above than this.
+    fn risen(&self, jumps: &[Jump], class: ClassId, depth: usize) -> ClassId
+        requires { AreJumps (table_data self.now).classes jumps.now }
+        ensures { (other : ℕ) → depth ≡ (jump_at jumps.now other).depth → is_of_kind (table_data self.now) result other ≡ is_of_kind (table_data self.now) class other }
+    {
+        let mut at = class;
+        for _ in 0..self.classes.len() {
+            let to = jump_at(jumps, at).to;
+            if to == at {
+                return at;
+            }
+            if jump_at(jumps, to).depth < depth {
+                return at;
+            }
+            at = to;
+        }
+        at
+    }
+
+    fn is_kind_by_jumps(&self, jumps: &[Jump], class: ClassId, other: ClassId) -> bool
+        requires { AreJumps (table_data self.now).classes jumps.now }
+        ensures { result ≡ is_of_kind (table_data self.now) class other }
+    {
+        let depth = jump_at(jumps, other).depth;
+        let mut at = class;
+        for _ in 0..self.classes.len() {
+            let from = self.risen(jumps, at, depth);
+            if jump_at(jumps, from).depth <= depth {
+                return from == other;
+            }
+            let Some(above) = self.above(from) else {
+                return false;
+            };
+            at = above;
+        }
+        self.is_kind_by_steps(at, other)
+    }
+
+    fn is_kind_by_steps(&self, class: ClassId, other: ClassId) -> bool
+        ensures { result ≡ is_of_kind (table_data self.now) class other }
+    {
         let mut at = class;
         for _ in 0..self.classes.len() {
             if at == other {
@@ -99,6 +148,26 @@ impl<'a> ClassTable<'a> {
         at == other
     }
 
+    /// The class to which as many jumps lead as pass none that declares a name of this bucket.
+    fn passed(&self, jumps: &[Jump], class: ClassId, bucket: u32) -> ClassId
+        requires jumps { AreJumps (table_data self.now).classes jumps.now }
+        requires low { bucket < 64 }
+        ensures { (own : ℕ → Option ℕ) → AreOfBucket jumps.now own bucket → first_found own (class_and_ancestors (table_data self.now) result) ≡ first_found own (class_and_ancestors (table_data self.now) class) }
+    {
+        let mut at = class;
+        for _ in 0..self.classes.len() {
+            let jump = jump_at(jumps, at);
+            if jump.to == at {
+                return at;
+            }
+            if has_bucket(jump.names, bucket) {
+                return at;
+            }
+            at = jump.to;
+        }
+        at
+    }
+
     fn own_field(&self, class: ClassId, name: &str) -> Option<FieldId>
         ensures { result ≡ own_field (table_data self.now) name.now class }
     {
@@ -107,6 +176,32 @@ impl<'a> ClassTable<'a> {
 
     /// The field with this name in a class: its own, else that of its nearest ancestor that has one.
     pub fn field_named(&self, class: ClassId, name: &str) -> Option<FieldId>
+        ensures { result ≡ field_number (table_data self.now) class name.now }
+    {
+        match &self.jumps {
+            Some(jumps) => self.field_by_jumps(jumps.as_slice(), class, name),
+            None => self.field_by_steps(class, name),
+        }
+    }
+
+    fn field_by_jumps(&self, jumps: &[Jump], class: ClassId, name: &str) -> Option<FieldId>
+        requires { AreJumps (table_data self.now).classes jumps.now }
+        ensures { result ≡ field_number (table_data self.now) class name.now }
+    {
+        let bucket = bucket(name);
+        let mut at = class;
+        for _ in 0..self.classes.len() {
+            let from = self.passed(jumps, at, bucket);
+            let found = self.own_field(from, name);
+            if found.is_some() {
+                return found;
+            }
+            at = self.above(from)?;
+        }
+        self.field_by_steps(at, name)
+    }
+
+    fn field_by_steps(&self, class: ClassId, name: &str) -> Option<FieldId>
         ensures { result ≡ field_number (table_data self.now) class name.now }
     {
         let mut at = class;
@@ -128,6 +223,32 @@ impl<'a> ClassTable<'a> {
 
     /// The method with this name in a class: its own, else that of its nearest ancestor that has one.
     pub fn method_named(&self, class: ClassId, name: &str) -> Option<MethodId>
+        ensures { result ≡ method_number (table_data self.now) class name.now }
+    {
+        match &self.jumps {
+            Some(jumps) => self.method_by_jumps(jumps.as_slice(), class, name),
+            None => self.method_by_steps(class, name),
+        }
+    }
+
+    fn method_by_jumps(&self, jumps: &[Jump], class: ClassId, name: &str) -> Option<MethodId>
+        requires { AreJumps (table_data self.now).classes jumps.now }
+        ensures { result ≡ method_number (table_data self.now) class name.now }
+    {
+        let bucket = bucket(name);
+        let mut at = class;
+        for _ in 0..self.classes.len() {
+            let from = self.passed(jumps, at, bucket);
+            let found = self.own_method(from, name);
+            if found.is_some() {
+                return found;
+            }
+            at = self.above(from)?;
+        }
+        self.method_by_steps(at, name)
+    }
+
+    fn method_by_steps(&self, class: ClassId, name: &str) -> Option<MethodId>
         ensures { result ≡ method_number (table_data self.now) class name.now }
     {
         let mut at = class;

@@ -16,6 +16,7 @@ use crate::build::{TableParts, parts_of};
 use crate::check::first_fault;
 use crate::entries::ClassTable;
 use crate::fault::ClassFault;
+use crate::jumps::jumps;
 use crate::names::NameSet;
 use crate::numbers::number;
 use crate::own::{OwnNames, all_own_names};
@@ -42,11 +43,13 @@ fn build<'a>(
         fields,
         methods,
     } = parts;
+    let jumps = jumps(alloc, classes.as_slice())?;
     Ok(ClassTable {
         names,
         classes,
         fields,
         methods,
+        jumps,
     })
 }
 

@@ -2,7 +2,7 @@ use Rattle.std.proofs.Common.{◌≡◌, ◌+◌, ◌-◌, Some, length}
 use Rattle.classes.specs.Lines.{ancestors}
 use Rattle.classes.specs.Table.{above_in_table, first_found, own_method, method_number}
 use Rattle.classes.specs.Views.{table_data}
-use Rattle.classes.proofs.entries.ClassTable.method_named.Given as goal
+use Rattle.classes.proofs.entries.ClassTable.method_by_steps.Given as goal
 
 abbrev pub invariant-loop : goal.invariant-loop
 invariant-loop l =

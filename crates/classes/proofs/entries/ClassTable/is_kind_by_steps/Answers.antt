@@ -2,7 +2,7 @@ use Rattle.std.proofs.Common.{◌≡◌, ◌-◌, ◌+◌, ◌==◌, false, Some
 use Rattle.classes.specs.Table.{above_in_table}
 use Rattle.classes.specs.Views.{table_data}
 use Rattle.classes.proofs.Going.{reached_above}
-use Rattle.classes.proofs.entries.ClassTable.is_kind_of.Goals as goal
+use Rattle.classes.proofs.entries.ClassTable.is_kind_by_steps.Goals as goal
 
 pub loop-preserved : goal.loop-preserved
 loop-preserved c =
