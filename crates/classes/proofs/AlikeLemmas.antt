@@ -1,6 +1,6 @@
 -- Where a walk has found no methods apart, none overrides one that it may not override.
-use Rattle.std.proofs.Common.{◌≡◌, ◌⊎◌, ℕ, zero, suc, Bool, true, false, not, ◌&&◌, ◌||◌, List, [], ◌∷◌, length, take, drop, map, Option, Some, None, refl, sym, ap, subst, ◌∙◌, bytes_eq, slice_get, is_some, replicate, if◌then◌else◌, inl, inr}
-use Rattle.std.specs.Prelude.{slice_set}
+use Rattle.std.proofs.Common.{◌≡◌, ◌⊎◌, ◌-◌, ◌++◌, arith, ℕ, zero, suc, Bool, true, false, not, ◌&&◌, ◌||◌, List, [], ◌∷◌, length, take, drop, map, Option, Some, None, refl, sym, ap, subst, ◌∙◌, bytes_eq, slice_get, is_some, replicate, if◌then◌else◌, inl, inr}
+use Rattle.std.specs.Prelude.{slice_set, slice_index_or, swap_remove}
 use Rattle.std.specs.List.{list_any, list_all}
 use Rattle.std.specs.Option.{option_map, option_and_then}
 use Rattle.std.proofs.lemmas.Bool.{and_parts, and_from, or_left, or_right}
@@ -304,10 +304,40 @@ pub walked_well : (tree : ProgramTree) (above_each : List (Option ℕ)) (methods
 walked_well tree above_each methods names d n steps same leads = all_walked tree above_each methods names d (replicate n 0) steps same (walk_begins tree above_each methods names d steps n leads)
 
 -- what is written into a list, seen as data
-pub seen_set : {A B : Type 0} (f : A → B) (xs : List A) (n : ℕ) (x : A) → map f (slice_set xs n x) ≡ slice_set (map f xs) n (f x)
+seen_set : {A B : Type 0} (f : A → B) (xs : List A) (n : ℕ) (x : A) → map f (slice_set xs n x) ≡ slice_set (map f xs) n (f x)
 seen_set f [] n x = refl
 seen_set f (y ∷ ys) zero x = refl
 seen_set f (y ∷ ys) (suc n) x = ap (λ l. f y ∷ l) (seen_set f ys n x)
+
+module _ {A : Type 0} (x : A) where
+  one_more : (xs : List A) → length (xs ++ x ∷ []) ≡ suc (length xs)
+  one_more [] = refl
+  one_more (y ∷ ys) = ap suc (one_more ys)
+
+  last_one : (xs : List A) (d : A) → slice_index_or (xs ++ x ∷ []) (length xs) d ≡ x
+  last_one [] d = refl
+  last_one (y ∷ ys) d = last_one ys d
+
+  but_last : (xs : List A) → take (length xs) (xs ++ x ∷ []) ≡ xs
+  but_last [] = refl
+  but_last (y ∷ ys) = ap (λ l. y ∷ l) (but_last ys)
+
+  but_last_set : (xs : List A) (n : ℕ) → take (length xs) (slice_set (xs ++ x ∷ []) n x) ≡ slice_set xs n x
+  but_last_set [] n = refl
+  but_last_set (y ∷ ys) zero = ap (λ l. x ∷ l) (but_last ys)
+  but_last_set (y ∷ ys) (suc n) = ap (λ l. y ∷ l) (but_last_set ys n)
+
+  -- what comes last, and then takes the place of another
+  last_in_place : (xs : List A) (n : ℕ) (d : A) → swap_remove (xs ++ x ∷ []) n d ≡ slice_set xs n x
+  last_in_place xs n d =
+      let one : suc (length xs) - 1 ≡ length xs = omega arith in
+      ap (λ l. take l (slice_set (xs ++ x ∷ []) n (slice_index_or (xs ++ x ∷ []) l d))) (ap (λ l. l - 1) (one_more xs) ∙ one)
+      ∙ ap (λ y. take (length xs) (slice_set (xs ++ x ∷ []) n y)) (last_one xs d)
+      ∙ but_last_set xs n
+
+-- the same, seen as data
+pub put_in_place : {A B : Type 0} (f : A → B) (xs : List A) (n : ℕ) (x d : A) → map f (swap_remove (xs ++ x ∷ []) n d) ≡ slice_set (map f xs) n (f x)
+put_in_place f xs n x d = ap (map f) (last_in_place x xs n d) ∙ seen_set f xs n x
 
 none_above : (methods : ℕ → List Heading) (ms : List Heading) → override_faults methods [] ms ≡ []
 none_above methods [] = refl

@@ -96,14 +96,20 @@ fn number_in(names: &NameSet, text: &str) -> usize
     }
 }
 
-/// Writes what is known of the name with a number.
-#[tactic(auto, using(crate::proofs::AlikeLemmas::seen_set))]
-fn put<'h, 'p, 'a>(all: &mut Vec<Standing<'h, 'p, 'a>>, number: usize, known: &Standing<'h, 'p, 'a>)
-    ensures { map standing_data all.new.items ≡ slice_set (map standing_data all.old.items) number (standing_data known.now) }
+/// Writes what is known of the name with a number: it comes last, and then takes the place of what was known.
+#[tactic(auto, using(crate::proofs::AlikeLemmas::put_in_place))]
+fn put<'h, 'p, 'a>(
+    all: &mut Vec<Standing<'h, 'p, 'a>>,
+    number: usize,
+    known: Standing<'h, 'p, 'a>,
+) -> Result<(), NoMemory>
+    ensures { OnOk result (map standing_data all.new.items ≡ slice_set (map standing_data all.old.items) number (standing_data known.entry)) }
 {
-    if let Some(place) = all.get_mut(number) {
-        *place = *known;
+    if number < all.len() {
+        all.push(known)?;
+        all.swap_remove(number);
     }
+    Ok(())
 }
 
 impl<'h, 'p, 'a> Line<'h, 'p, 'a> {
@@ -159,11 +165,11 @@ impl<'h, 'p, 'a> Line<'h, 'p, 'a> {
         self.standing_at(number_in(names, name.text))
     }
 
-    fn write(&mut self, number: usize, known: &Standing<'h, 'p, 'a>)
-        ensures known { (line_state self.new).known ≡ slice_set (line_state self.old).known number (standing_data known.now) }
+    fn write(&mut self, number: usize, known: Standing<'h, 'p, 'a>) -> Result<(), NoMemory>
+        ensures known { OnOk result ((line_state self.new).known ≡ slice_set (line_state self.old).known number (standing_data known.entry)) }
         ensures saved { (line_state self.new).saved ≡ (line_state self.old).saved }
     {
-        put(&mut self.known, number, known);
+        put(&mut self.known, number, known)
     }
 
     /// How many of these methods, from the first on, override well.
@@ -189,8 +195,7 @@ impl<'h, 'p, 'a> Line<'h, 'p, 'a> {
         let known = self.standing_at(number);
         let next = joined_standing(&known, one);
         self.saved.push(Saved { number, known })?;
-        self.write(number, &next);
-        Ok(())
+        self.write(number, next)
     }
 
     /// Adds these methods.
@@ -204,23 +209,25 @@ impl<'h, 'p, 'a> Line<'h, 'p, 'a> {
     }
 
     /// Takes back the last method.
-    fn leave(&mut self)
-        ensures { line_state self.new ≡ left (line_state self.old) }
+    fn leave(&mut self) -> Result<(), NoMemory>
+        ensures { OnOk result (line_state self.new ≡ left (line_state self.old)) }
     {
-        if let Some(saved) = self.saved.pop() {
-            self.write(saved.number, &saved.known);
+        match self.saved.pop() {
+            Some(saved) => self.write(saved.number, saved.known),
+            None => Ok(()),
         }
     }
 
     /// Takes back so many methods.
-    fn leave_all(&mut self, count: usize)
-        ensures { line_state self.new ≡ all_left count (line_state self.old) }
+    fn leave_all(&mut self, count: usize) -> Result<(), NoMemory>
+        ensures { OnOk result (line_state self.new ≡ all_left count (line_state self.old)) }
     {
         let mut left = count;
         while left > 0 {
-            self.leave();
+            self.leave()?;
             left -= 1;
         }
+        Ok(())
     }
 
     /// Goes down to a class with these methods. How many of them, from the first on, override well.
@@ -249,7 +256,7 @@ impl<'h, 'p, 'a> Line<'h, 'p, 'a> {
                 let count = self.go_down_to(names, rows, class)?;
                 write(well, class, count);
             }
-            Step::Up(class) => self.go_up_from(rows, class),
+            Step::Up(class) => self.go_up_from(rows, class)?,
         }
         Ok(())
     }
@@ -285,11 +292,12 @@ impl<'h, 'p, 'a> Line<'h, 'p, 'a> {
         }
     }
 
-    fn go_up_from(&mut self, rows: &[Vec<Heading>], class: usize)
-        ensures { line_state self.new ≡ all_left (length (class_headings (rows_data rows.now) class)) (line_state self.old) }
+    fn go_up_from(&mut self, rows: &[Vec<Heading>], class: usize) -> Result<(), NoMemory>
+        ensures { OnOk result (line_state self.new ≡ all_left (length (class_headings (rows_data rows.now) class)) (line_state self.old)) }
     {
-        if let Some(row) = rows.get(class) {
-            self.leave_all(row.len());
+        match rows.get(class) {
+            Some(row) => self.leave_all(row.len()),
+            None => Ok(()),
         }
     }
 }

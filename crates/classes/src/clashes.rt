@@ -1,6 +1,6 @@
 //! Notes the methods that override one with another signature.
 
-ghost use Rattle.std.specs.Prelude.{◌≡◌, ◌∷◌, [], map, drop, if◌then◌else◌};
+ghost use Rattle.std.specs.Prelude.{◌≡◌, ◌≤◌, ◌∷◌, [], map, length, drop, if◌then◌else◌};
 ghost use Rattle.std.specs.List.{list_any};
 ghost use Rattle.classes.specs.declared.fault.ClassFault.TheVariants as kind;
 ghost use Rattle.classes.specs.Overriding.{clashes, overrides_badly};
@@ -125,6 +125,14 @@ fn well_at(well: &[usize], number: usize) -> usize
     }
 }
 
+/// The methods behind so many.
+fn behind<'o, 'p, 'a>(own: &'o [Heading<'p, 'a>], well: usize) -> &'o [Heading<'p, 'a>]
+    requires { well ≤ length own.now }
+    ensures { result.now ≡ drop well own.now }
+{
+    &own[well..]
+}
+
 /// The same of all of these methods but so many, from the first on.
 fn note_clashes_from(
     inheritance: &Inheritance,
@@ -137,7 +145,7 @@ fn note_clashes_from(
     ensures { result ≡ noted first (override_faults (class_headings (rows_data inheritance.now.headings.now)) (ancestors_of (tree_of inheritance.now.family.now) number) (drop well (map heading_data own.now))) }
 {
     if well < own.len() {
-        note_clashes(inheritance, number, &own[well..], first)
+        note_clashes(inheritance, number, behind(own, well), first)
     } else {
         first
     }
