@@ -1,384 +1,373 @@
--- Where each method is alike with the nearest of its name, none overrides one that it may not override.
-use Rattle.std.proofs.Common.{◌≡◌, ℕ, zero, suc, ◌+◌, ◌-◌, ◌<◌, Bool, true, false, not, ◌&&◌, ◌||◌, ◌==◌, List, [], ◌∷◌, length, Option, Some, None, refl, sym, ap, subst, ◌∙◌, arith, bytes_eq, slice_get, is_some, if◌then◌else◌, inl, inr}
+-- Where a walk has found no methods apart, none overrides one that it may not override.
+use Rattle.std.proofs.Common.{◌≡◌, ◌⊎◌, ◌-◌, ◌++◌, arith, ℕ, zero, suc, Bool, true, false, not, ◌&&◌, ◌||◌, List, [], ◌∷◌, length, take, drop, map, Option, Some, None, refl, sym, ap, subst, ◌∙◌, bytes_eq, slice_get, is_some, replicate, if◌then◌else◌, inl, inr}
+use Rattle.std.specs.Prelude.{slice_set, slice_index_or, swap_remove}
 use Rattle.std.specs.List.{list_any, list_all}
-use Rattle.std.proofs.lemmas.Bool.{and_parts, and_from, or_cases, or_left, or_right, or_parts, eqb-true, eq-eqb}
+use Rattle.std.specs.Option.{option_map, option_and_then}
+use Rattle.std.proofs.lemmas.Bool.{and_parts, and_from, or_left, or_right}
+use Rattle.std.proofs.lemmas.Option.{slice_get-map, same_Some}
 use Rattle.std.proofs.lemmas.Slice.Eq.{bytes_eq-Decides}
-use Rattle.syntax.specs.declared.tree.Param.{Param}
-use Rattle.syntax.specs.declared.tree.TypeName.{TypeName}
-use Rattle.syntax.specs.declared.tree.TypeName.TheVariants as Y
-use Rattle.syntax.specs.Trees.{ProgramTree}
-use Rattle.classes.specs.Members.{is_same_type}
-use Rattle.classes.specs.Lines.{above, ancestors, is_on_circle, ancestor_classes}
-use Rattle.classes.specs.Overriding.{FieldPlace, LockMeaning, Signature, Heading, are_same_places, is_same_lock, are_among, same_where_known, same_mark, are_alike, is_same_result, is_same_signature, clashes, overrides_badly}
+use Rattle.syntax.specs.Trees.{ClassTree, ProgramTree}
+use Rattle.forest.specs.declared.steps.Step.{Step}
+use Rattle.forest.specs.declared.steps.Step.TheVariants.{Down, Up}
+use Rattle.forest.specs.Walks.{Leads}
+use Rattle.forest.specs.Walks as walks
+use Rattle.classes.specs.Lines.{above, above_in, ancestors, ancestors_of, is_on_circle, ancestor_classes}
+use Rattle.classes.specs.Overriding.{Heading, is_same_signature, clashes, overrides_badly}
+use Rattle.classes.proofs.Signatures.{wrong, signature_chain, signature_back, signature_self}
 use Rattle.classes.specs.Faults.{override_faults}
 use Rattle.classes.specs.declared.fault.ClassFault.TheVariants.{BadOverride}
-use Rattle.classes.specs.Families.{row_in, class_headings}
-use Rattle.classes.specs.Alike.{same_name, is_alike, alike_if_named, alike_above, alike_or, fits_pattern, has_pattern, AreFitting, overrides_well, all_override_well, rows_override_well, AllOverrideWell}
-
-wrong : {X : Type 0} → false ≡ true → X
-wrong e = absurd (let f : false ≡ true = e in cc)
-
--- ---- the parts of a signature: what equals the same is equal
-
-bytes_chain : (xs ys zs : List ℕ) → bytes_eq xs ys ≡ true → bytes_eq ys zs ≡ true → bytes_eq xs zs ≡ true
-bytes_chain xs ys zs first second = subst (λ l. bytes_eq l zs ≡ true) (sym ((bytes_eq-Decides xs ys).0 first)) second
-
-mark_chain : (a b c : Bool) → same_mark a b ≡ true → same_mark b c ≡ true → same_mark a c ≡ true
-mark_chain true true c first second = second
-mark_chain true false c first second = wrong first
-mark_chain false true c first second = wrong first
-mark_chain false false c first second = second
-
-type_chain : (t u v : TypeName) → is_same_type t u ≡ true → is_same_type u v ≡ true → is_same_type t v ≡ true
-type_chain Y.Int Y.Int v first second = second
-type_chain Y.Int Y.Boolean v first second = wrong first
-type_chain Y.Int (Y.Class n) v first second = wrong first
-type_chain Y.Boolean Y.Int v first second = wrong first
-type_chain Y.Boolean Y.Boolean v first second = second
-type_chain Y.Boolean (Y.Class n) v first second = wrong first
-type_chain (Y.Class m) Y.Int v first second = wrong first
-type_chain (Y.Class m) Y.Boolean v first second = wrong first
-type_chain (Y.Class m) (Y.Class n) Y.Int first second = wrong second
-type_chain (Y.Class m) (Y.Class n) Y.Boolean first second = wrong second
-type_chain (Y.Class m) (Y.Class n) (Y.Class o) first second = bytes_chain m.text n.text o.text first second
-
-result_chain : (t u v : Option TypeName) → is_same_result t u ≡ true → is_same_result u v ≡ true → is_same_result t v ≡ true
-result_chain None None v first second = second
-result_chain None (Some u) v first second = wrong first
-result_chain (Some t) None v first second = wrong first
-result_chain (Some t) (Some u) None first second = wrong second
-result_chain (Some t) (Some u) (Some v) first second = type_chain t u v first second
-
-params_chain : (ps qs rs : List Param) → are_alike ps qs ≡ true → are_alike qs rs ≡ true → are_alike ps rs ≡ true
-params_chain [] [] rs first second = second
-params_chain [] (q ∷ qs) rs first second = wrong first
-params_chain (p ∷ ps) [] rs first second = wrong first
-params_chain (p ∷ ps) (q ∷ qs) [] first second = wrong second
-params_chain (p ∷ ps) (q ∷ qs) (r ∷ rs) first second =
-    let a = and_parts (same_mark p.is_final q.is_final) (is_same_type p.ty q.ty && are_alike ps qs) first in
-    let b = and_parts (is_same_type p.ty q.ty) (are_alike ps qs) a.1 in
-    let c = and_parts (same_mark q.is_final r.is_final) (is_same_type q.ty r.ty && are_alike qs rs) second in
-    let d = and_parts (is_same_type q.ty r.ty) (are_alike qs rs) c.1 in
-    and_from (same_mark p.is_final r.is_final) (is_same_type p.ty r.ty && are_alike ps rs) (mark_chain p.is_final q.is_final r.is_final a.0 c.0)
-    (and_from (is_same_type p.ty r.ty) (are_alike ps rs) (type_chain p.ty q.ty r.ty b.0 d.0) (params_chain ps qs rs b.1 d.1))
-
-number_chain : (a b c : ℕ) → (a == b) ≡ true → (b == c) ≡ true → (a == c) ≡ true
-number_chain a b c first second = eq-eqb a c (eqb-true a b first ∙ eqb-true b c second)
-
-places_chain : (fs gs hs : List FieldPlace) → are_same_places fs gs ≡ true → are_same_places gs hs ≡ true → are_same_places fs hs ≡ true
-places_chain [] [] hs first second = second
-places_chain [] (g ∷ gs) hs first second = wrong first
-places_chain (f ∷ fs) [] hs first second = wrong first
-places_chain (f ∷ fs) (g ∷ gs) [] first second = wrong second
-places_chain (f ∷ fs) (g ∷ gs) (h ∷ hs) first second =
-    let a = and_parts (f.class == g.class) (f.place == g.place && are_same_places fs gs) first in
-    let b = and_parts (f.place == g.place) (are_same_places fs gs) a.1 in
-    let c = and_parts (g.class == h.class) (g.place == h.place && are_same_places gs hs) second in
-    let d = and_parts (g.place == h.place) (are_same_places gs hs) c.1 in
-    and_from (f.class == h.class) (f.place == h.place && are_same_places fs hs) (number_chain f.class g.class h.class a.0 c.0)
-    (and_from (f.place == h.place) (are_same_places fs hs) (number_chain f.place g.place h.place b.0 d.0) (places_chain fs gs hs b.1 d.1))
-
-lock_chain : (r s t : LockMeaning) → is_same_lock r s ≡ true → is_same_lock s t ≡ true → is_same_lock r t ≡ true
-lock_chain r s t first second =
-    let a = and_parts (r.slot == s.slot) (are_same_places r.fields s.fields) first in
-    let b = and_parts (s.slot == t.slot) (are_same_places s.fields t.fields) second in
-    and_from (r.slot == t.slot) (are_same_places r.fields t.fields) (number_chain r.slot s.slot t.slot a.0 b.0) (places_chain r.fields s.fields t.fields a.1 b.1)
-
-among_same : (r s : LockMeaning) (ts : List LockMeaning) → is_same_lock r s ≡ true → list_any (is_same_lock s) ts ≡ true → list_any (is_same_lock r) ts ≡ true
-among_same r s [] same has = wrong has
-among_same r s (t ∷ ts) same has = elim (or_cases (is_same_lock s t) (list_any (is_same_lock s) ts) has) as (λ _. (is_same_lock r t || list_any (is_same_lock r) ts) ≡ true) [
-  | inl here ↦ or_left (is_same_lock r t) (list_any (is_same_lock r) ts) (lock_chain r s t same here)
-  | inr later ↦ or_right (is_same_lock r t) (list_any (is_same_lock r) ts) (among_same r s ts same later)
-]
-
-one_among : (r : LockMeaning) (ss ts : List LockMeaning) → list_any (is_same_lock r) ss ≡ true → are_among ss ts ≡ true → list_any (is_same_lock r) ts ≡ true
-one_among r [] ts has all = wrong has
-one_among r (s ∷ ss) ts has all =
-    let both = and_parts (list_any (is_same_lock s) ts) (are_among ss ts) all in
-    elim (or_cases (is_same_lock r s) (list_any (is_same_lock r) ss) has) as (λ _. list_any (is_same_lock r) ts ≡ true) [
-      | inl here ↦ among_same r s ts here both.0
-      | inr later ↦ one_among r ss ts later both.1
-    ]
-
-among_chain : (rs ss ts : List LockMeaning) → are_among rs ss ≡ true → are_among ss ts ≡ true → are_among rs ts ≡ true
-among_chain [] ss ts first second = refl
-among_chain (r ∷ rs) ss ts first second =
-    let both = and_parts (list_any (is_same_lock r) ss) (are_among rs ss) first in
-    and_from (list_any (is_same_lock r) ts) (are_among rs ts) (one_among r ss ts both.0 second) (among_chain rs ss ts both.1 second)
-
-locks_chain : (a b c : Option (List LockMeaning)) → (is_some b || not (is_some a)) ≡ true → same_where_known a b ≡ true → same_where_known b c ≡ true → same_where_known a c ≡ true
-locks_chain None b c known first second = refl
-locks_chain (Some rs) None c known first second = wrong known
-locks_chain (Some rs) (Some ss) None known first second = refl
-locks_chain (Some rs) (Some ss) (Some ts) known first second =
-    let a = and_parts (are_among rs ss) (are_among ss rs) first in
-    let b = and_parts (are_among ss ts) (are_among ts ss) second in
-    and_from (are_among rs ts) (are_among ts rs) (among_chain rs ss ts a.0 b.0) (among_chain ts ss rs b.1 a.1)
-
--- what has the signature of one, whose locks are known where its own are, has that of whatever that has it of
-signature_chain : (m n o : Signature) → (is_some n.locks || not (is_some m.locks)) ≡ true → is_same_signature m n ≡ true → is_same_signature n o ≡ true → is_same_signature m o ≡ true
-signature_chain m n o known first second =
-    let a = and_parts (are_alike m.params n.params) (is_same_result m.returns n.returns && (same_mark m.atomic n.atomic && same_where_known m.locks n.locks)) first in
-    let b = and_parts (is_same_result m.returns n.returns) (same_mark m.atomic n.atomic && same_where_known m.locks n.locks) a.1 in
-    let c = and_parts (same_mark m.atomic n.atomic) (same_where_known m.locks n.locks) b.1 in
-    let d = and_parts (are_alike n.params o.params) (is_same_result n.returns o.returns && (same_mark n.atomic o.atomic && same_where_known n.locks o.locks)) second in
-    let e = and_parts (is_same_result n.returns o.returns) (same_mark n.atomic o.atomic && same_where_known n.locks o.locks) d.1 in
-    let f = and_parts (same_mark n.atomic o.atomic) (same_where_known n.locks o.locks) e.1 in
-    and_from (are_alike m.params o.params) (is_same_result m.returns o.returns && (same_mark m.atomic o.atomic && same_where_known m.locks o.locks)) (params_chain m.params n.params o.params a.0 d.0)
-    (and_from (is_same_result m.returns o.returns) (same_mark m.atomic o.atomic && same_where_known m.locks o.locks) (result_chain m.returns n.returns o.returns b.0 e.0)
-    (and_from (same_mark m.atomic o.atomic) (same_where_known m.locks o.locks) (mark_chain m.atomic n.atomic o.atomic c.0 f.0) (locks_chain m.locks n.locks o.locks known c.1 f.1)))
-
--- ---- the other way round
-
-bytes_back : (xs ys : List ℕ) → bytes_eq xs ys ≡ true → bytes_eq ys xs ≡ true
-bytes_back xs ys e = subst (λ l. bytes_eq ys l ≡ true) (sym ((bytes_eq-Decides xs ys).0 e)) ((bytes_eq-Decides ys ys).1 refl)
-
-mark_back : (a b : Bool) → same_mark a b ≡ true → same_mark b a ≡ true
-mark_back true true same = refl
-mark_back true false same = wrong same
-mark_back false true same = wrong same
-mark_back false false same = refl
-
-type_back : (t u : TypeName) → is_same_type t u ≡ true → is_same_type u t ≡ true
-type_back Y.Int Y.Int same = refl
-type_back Y.Int Y.Boolean same = wrong same
-type_back Y.Int (Y.Class n) same = wrong same
-type_back Y.Boolean Y.Int same = wrong same
-type_back Y.Boolean Y.Boolean same = refl
-type_back Y.Boolean (Y.Class n) same = wrong same
-type_back (Y.Class m) Y.Int same = wrong same
-type_back (Y.Class m) Y.Boolean same = wrong same
-type_back (Y.Class m) (Y.Class n) same = bytes_back m.text n.text same
-
-result_back : (t u : Option TypeName) → is_same_result t u ≡ true → is_same_result u t ≡ true
-result_back None None same = refl
-result_back None (Some u) same = wrong same
-result_back (Some t) None same = wrong same
-result_back (Some t) (Some u) same = type_back t u same
-
-params_back : (ps qs : List Param) → are_alike ps qs ≡ true → are_alike qs ps ≡ true
-params_back [] [] same = refl
-params_back [] (q ∷ qs) same = wrong same
-params_back (p ∷ ps) [] same = wrong same
-params_back (p ∷ ps) (q ∷ qs) same =
-    let a = and_parts (same_mark p.is_final q.is_final) (is_same_type p.ty q.ty && are_alike ps qs) same in
-    let b = and_parts (is_same_type p.ty q.ty) (are_alike ps qs) a.1 in
-    and_from (same_mark q.is_final p.is_final) (is_same_type q.ty p.ty && are_alike qs ps) (mark_back p.is_final q.is_final a.0)
-    (and_from (is_same_type q.ty p.ty) (are_alike qs ps) (type_back p.ty q.ty b.0) (params_back ps qs b.1))
-
-locks_back : (a b : Option (List LockMeaning)) → same_where_known a b ≡ true → same_where_known b a ≡ true
-locks_back None None same = refl
-locks_back None (Some ss) same = refl
-locks_back (Some rs) None same = refl
-locks_back (Some rs) (Some ss) same =
-    let both = and_parts (are_among rs ss) (are_among ss rs) same in
-    and_from (are_among ss rs) (are_among rs ss) both.1 both.0
-
-signature_back : (m n : Signature) → is_same_signature m n ≡ true → is_same_signature n m ≡ true
-signature_back m n same =
-    let a = and_parts (are_alike m.params n.params) (is_same_result m.returns n.returns && (same_mark m.atomic n.atomic && same_where_known m.locks n.locks)) same in
-    let b = and_parts (is_same_result m.returns n.returns) (same_mark m.atomic n.atomic && same_where_known m.locks n.locks) a.1 in
-    let c = and_parts (same_mark m.atomic n.atomic) (same_where_known m.locks n.locks) b.1 in
-    and_from (are_alike n.params m.params) (is_same_result n.returns m.returns && (same_mark n.atomic m.atomic && same_where_known n.locks m.locks)) (params_back m.params n.params a.0)
-    (and_from (is_same_result n.returns m.returns) (same_mark n.atomic m.atomic && same_where_known n.locks m.locks) (result_back m.returns n.returns b.0)
-    (and_from (same_mark n.atomic m.atomic) (same_where_known n.locks m.locks) (mark_back m.atomic n.atomic c.0) (locks_back m.locks n.locks c.1)))
+use Rattle.classes.specs.Families.{all_above}
+use Rattle.classes.specs.Alike.{is_alike, Standing, Nowhere, Alike, Apart, accepts, is_well, joined_standing, standing_at, number_in, standing_of, count_well, LineState, with_heading, with_headings, left, all_left, line_after, well_at, well_after, well_after_all, AreWell}
 
 -- ---- methods that don't clash
 
 -- a method and those of some that have its name have one signature
-abbrev Alike : Heading → List Heading → Type 0
-Alike m [] = Unit {0}
-Alike m (n ∷ ns) = (same_name m n ≡ true → is_same_signature m.signature n.signature ≡ true) × Alike m ns
+abbrev AgreesWith : Heading → List Heading → Type 0
+AgreesWith m [] = Unit {0}
+AgreesWith m (n ∷ ns) = (bytes_eq m.name.text n.name.text ≡ true → is_same_signature m.signature n.signature ≡ true) × AgreesWith m ns
 
 -- the same of the methods of some classes
-abbrev AlikeAlong : (ℕ → List Heading) → Heading → List ℕ → Type 0
-AlikeAlong methods m [] = Unit {0}
-AlikeAlong methods m (c ∷ cs) = Alike m (methods c) × AlikeAlong methods m cs
+abbrev AgreesAlong : (ℕ → List Heading) → Heading → List ℕ → Type 0
+AgreesAlong methods m [] = Unit {0}
+AgreesAlong methods m (c ∷ cs) = AgreesWith m (methods c) × AgreesAlong methods m cs
 
--- a method and one of its name that others of it are alike with
-through : (m n : Heading) (os : List Heading) → same_name m n ≡ true → is_alike m n ≡ true → Alike n os → Alike m os
-through m n [] named alike all = tt
-through m n (o ∷ os) named alike all =
-    let both = and_parts (is_same_signature m.signature n.signature) (is_some n.signature.locks || not (is_some m.signature.locks)) alike in (
-      (λ same. signature_chain m.signature n.signature o.signature both.1 both.0
-          (all.0 (bytes_chain n.name.text m.name.text o.name.text (bytes_back m.name.text n.name.text named) same))),
-      through m n os named alike all.1,
-    )
-
-through_along : (methods : ℕ → List Heading) (m n : Heading) (cs : List ℕ) → same_name m n ≡ true → is_alike m n ≡ true → AlikeAlong methods n cs → AlikeAlong methods m cs
-through_along methods m n [] named alike all = tt
-through_along methods m n (c ∷ cs) named alike all = (through m n (methods c) named alike all.0, through_along methods m n cs named alike all.1)
-
-if_named : (a b : Bool) → (if a then b else true) ≡ true → a ≡ true → b ≡ true
-if_named true b e named = e
-if_named false b e named = wrong named
-
-row_alike : (m : Heading) (ns : List Heading) → list_all (alike_if_named m) ns ≡ true → Alike m ns
-row_alike m [] all = tt
-row_alike m (n ∷ ns) all =
-    let both = and_parts (alike_if_named m n) (list_all (alike_if_named m) ns) all in (
-      (λ named. (and_parts (is_same_signature m.signature n.signature) (is_some n.signature.locks || not (is_some m.signature.locks)) (if_named (same_name m n) (is_alike m n) both.0 named)).0),
-      row_alike m ns both.1,
-    )
-
--- one of some methods that has the name of this, and what is known of each of them
-record Named (F : Heading → Type 0) (m : Heading) : Type 0 where
-  other : Heading
-  named : same_name m other ≡ true
-  alike : is_alike m other ≡ true
-  known : F other
-
-found_named : (f : Heading → Bool) (m : Heading) (ns : List Heading) → list_any (same_name m) ns ≡ true → list_all (alike_if_named m) ns ≡ true → list_all f ns ≡ true → Named (λ n. f n ≡ true) m
-found_named f m [] has all each = wrong has
-found_named f m (n ∷ ns) has all each =
-    let both = and_parts (alike_if_named m n) (list_all (alike_if_named m) ns) all in
-    let known = and_parts (f n) (list_all f ns) each in
-    elim (or_cases (same_name m n) (list_any (same_name m) ns) has) as (λ _. Named (λ n. f n ≡ true) m) [
-      | inl here ↦ record { other = n; named = here; alike = if_named (same_name m n) (is_alike m n) both.0 here; known = known.0 }
-      | inr later ↦ found_named f m ns later both.1 known.1
-    ]
-
-none_named : (m : Heading) (ns : List Heading) → list_any (same_name m) ns ≡ false → Alike m ns
-none_named m [] none = tt
-none_named m (n ∷ ns) none =
-    let both = or_parts (same_name m n) (list_any (same_name m) ns) none in
-    ((λ named. wrong (sym both.0 ∙ named)), none_named m ns both.1)
-
--- ---- methods that something stands for
-
--- what is alike with a method that all of some are alike with has the signature of these that have its name
-fitting : (pattern : List ℕ → Option Heading) (m n : Heading) (os : List Heading) → pattern m.name.text ≡ Some n → is_alike m n ≡ true
-    → list_all (fits_pattern pattern) os ≡ true → Alike m os
-fitting pattern m n [] stands alike all = tt
-fitting pattern m n (o ∷ os) stands alike all =
-    let both = and_parts (fits_pattern pattern o) (list_all (fits_pattern pattern) os) all in
-    let known = and_parts (is_same_signature m.signature n.signature) (is_some n.signature.locks || not (is_some m.signature.locks)) alike in (
-      (λ same.
-          let same_text : pattern o.name.text ≡ Some n = ap pattern (sym ((bytes_eq-Decides m.name.text o.name.text).0 same)) ∙ stands in
-          let other : is_alike o n ≡ true = ap (λ z. alike_or true z o) (sym same_text) ∙ both.0 in
-          let back = signature_back o.signature n.signature (and_parts (is_same_signature o.signature n.signature) (is_some n.signature.locks || not (is_some o.signature.locks)) other).0 in
-          signature_chain m.signature n.signature o.signature known.1 known.0 back),
-      fitting pattern m n os stands alike both.1,
-    )
-
-module _ (pattern : List ℕ → Option Heading) (methods : ℕ → List Heading) (fit : (k : ℕ) → list_all (fits_pattern pattern) (methods k) ≡ true) where
-  fitting_along : (m n : Heading) (cs : List ℕ) → pattern m.name.text ≡ Some n → is_alike m n ≡ true → AlikeAlong methods m cs
-  fitting_along m n [] stands alike = tt
-  fitting_along m n (c ∷ cs) stands alike = (fitting pattern m n (methods c) stands alike (fit c), fitting_along m n cs stands alike)
-
-  -- a method that something stands for has the signature of all of its name
-  pattern_along : (m : Heading) (cs : List ℕ) → has_pattern pattern m ≡ true → AlikeAlong methods m cs
-  pattern_along m cs has = by_pattern (pattern m.name.text) refl has where
-    by_pattern : (o : Option Heading) → pattern m.name.text ≡ o → alike_or false o m ≡ true → AlikeAlong methods m cs
-    by_pattern None is has = wrong has
-    by_pattern (Some n) is has = fitting_along m n cs is has
-
-  module _ (up : ℕ → Option ℕ) (steps : ℕ) (each : (k : ℕ) → all_override_well pattern methods up steps (up k) (methods k) ≡ true) where
-    -- of a method that is alike with the nearest of its name from a class on
-    all_along : (k n : ℕ) (next : Option ℕ) (m : Heading) → alike_above methods up n next m ≡ true → AlikeAlong methods m (ancestors up k next)
-    all_along k n None m alike = tt
-    all_along zero n (Some c) m alike = tt
-    all_along (suc k) zero (Some c) m alike = wrong alike
-    all_along (suc k) (suc n) (Some c) m alike = by_name (list_any (same_name m) (methods c)) refl alike (all_along k n (up c) m) (all_along k steps (up c))
-      where
-        by_name : (b : Bool) → list_any (same_name m) (methods c) ≡ b → (if b then list_all (alike_if_named m) (methods c) else alike_above methods up n (up c) m) ≡ true
-            → (alike_above methods up n (up c) m ≡ true → AlikeAlong methods m (ancestors up k (up c)))
-            → ((o : Heading) → alike_above methods up steps (up c) o ≡ true → AlikeAlong methods o (ancestors up k (up c)))
-            → AlikeAlong methods m (c ∷ ancestors up k (up c))
-        by_name true has all further others =
-            let found = found_named (overrides_well pattern methods up steps (up c)) m (methods c) has all (each c) in
-            let higher = elim (or_cases (has_pattern pattern found.other) (alike_above methods up steps (up c) found.other) found.known) as (λ _. AlikeAlong methods found.other (ancestors up k (up c))) [
-              | inl stands ↦ pattern_along found.other (ancestors up k (up c)) stands
-              | inr nearest ↦ others found.other nearest
-            ] in
-            (row_alike m (methods c) all, through_along methods m found.other (ancestors up k (up c)) found.named found.alike higher)
-        by_name false none later further others = (none_named m (methods c) none, further later)
-
-    well_along : (k n : ℕ) (next : Option ℕ) (m : Heading) → overrides_well pattern methods up n next m ≡ true → AlikeAlong methods m (ancestors up k next)
-    well_along k n next m well = elim (or_cases (has_pattern pattern m) (alike_above methods up n next m) well) as (λ _. AlikeAlong methods m (ancestors up k next)) [
-      | inl stands ↦ pattern_along m (ancestors up k next) stands
-      | inr nearest ↦ all_along k n next m nearest
-    ]
-
--- ---- no faults
-
-no_clash : (m : Heading) (ns : List Heading) → Alike m ns → list_any (clashes m) ns ≡ false
+no_clash : (m : Heading) (ns : List Heading) → AgreesWith m ns → list_any (clashes m) ns ≡ false
 no_clash m [] alike = refl
-no_clash m (n ∷ ns) alike = ap (λ b. b || list_any (clashes m) ns) (by_name (same_name m n) (is_same_signature m.signature n.signature) alike.0) ∙ no_clash m ns alike.1
+no_clash m (n ∷ ns) alike = ap (λ b. b || list_any (clashes m) ns) (by_name (bytes_eq m.name.text n.name.text) (is_same_signature m.signature n.signature) alike.0) ∙ no_clash m ns alike.1
   where
     by_name : (a b : Bool) → (a ≡ true → b ≡ true) → (a && not b) ≡ false
     by_name true b same = ap not (same refl)
     by_name false b same = refl
 
-no_clash_along : (methods : ℕ → List Heading) (m : Heading) (cs : List ℕ) → AlikeAlong methods m cs → overrides_badly methods cs m ≡ false
+no_clash_along : (methods : ℕ → List Heading) (m : Heading) (cs : List ℕ) → AgreesAlong methods m cs → overrides_badly methods cs m ≡ false
 no_clash_along methods m [] alike = refl
 no_clash_along methods m (c ∷ cs) alike = ap (λ b. b || overrides_badly methods cs m) (no_clash m (methods c) alike.0) ∙ no_clash_along methods m cs alike.1
 
--- a method that something stands for overrides none badly
-pub stands_well : (pattern : List ℕ → Option Heading) (methods : ℕ → List Heading) (line : List ℕ) (m : Heading) → AreFitting pattern methods → has_pattern pattern m ≡ true → overrides_badly methods line m ≡ false
-stands_well pattern methods line m fit stands = no_clash_along methods m line (pattern_along pattern methods fit m line stands)
+-- ---- what is known of one name
 
-no_faults : (pattern : List ℕ → Option Heading) (methods : ℕ → List Heading) (up : ℕ → Option ℕ) (steps k n : ℕ) (next : Option ℕ) → AreFitting pattern methods
-    → ((k : ℕ) → all_override_well pattern methods up steps (up k) (methods k) ≡ true)
-    → (ms : List Heading) → all_override_well pattern methods up n next ms ≡ true → override_faults methods (ancestors up k next) ms ≡ []
-no_faults pattern methods up steps k n next fit each [] all = refl
-no_faults pattern methods up steps k n next fit each (m ∷ ms) all =
-    let both = and_parts (overrides_well pattern methods up n next m) (all_override_well pattern methods up n next ms) all in
-    ap (λ b. if b then BadOverride m.name.at ∷ override_faults methods (ancestors up k next) ms else override_faults methods (ancestors up k next) ms) (no_clash_along methods m (ancestors up k next) (well_along pattern methods fit up steps each k n next m both.0))
-    ∙ no_faults pattern methods up steps k n next fit each ms both.1
+alike_self : (m : Heading) → is_alike m m ≡ true
+alike_self m = and_from (is_same_signature m.signature m.signature) (is_some m.signature.locks || not (is_some m.signature.locks)) (signature_self m.signature) (or_not (is_some m.signature.locks))
+  where
+    or_not : (b : Bool) → (b || not b) ≡ true
+    or_not true = refl
+    or_not false = refl
+
+-- a method that is well has the signature of each that is accepted
+well_same : (k : Standing) (m o : Heading) → is_well k m ≡ true → accepts k o ≡ true → is_same_signature m.signature o.signature ≡ true
+well_same Nowhere m o well accepted = wrong accepted
+well_same (Alike p) m o well accepted =
+    let both = and_parts (is_same_signature o.signature p.signature) (is_some p.signature.locks || not (is_some o.signature.locks)) accepted in
+    signature_back o.signature m.signature (signature_chain o.signature p.signature m.signature both.1 both.0 (signature_back m.signature p.signature well))
+well_same Apart m o well accepted = wrong well
+
+joined_keeps : (k : Standing) (m o : Heading) → accepts k o ≡ true → accepts (joined_standing k m) o ≡ true
+joined_keeps Nowhere m o accepted = wrong accepted
+joined_keeps (Alike p) m o accepted = by_parts (is_same_signature m.signature p.signature) refl (is_some p.signature.locks) refl
+  where
+    by_parts : (a : Bool) → is_same_signature m.signature p.signature ≡ a → (b : Bool) → is_some p.signature.locks ≡ b
+        → accepts (if a then (if b then Alike p else Alike m) else Apart) o ≡ true
+    by_parts false same b known = refl
+    by_parts true same true known = accepted
+    by_parts true same false known =
+        let both = and_parts (is_same_signature o.signature p.signature) (is_some p.signature.locks || not (is_some o.signature.locks)) accepted in
+        and_from (is_same_signature o.signature m.signature) (is_some m.signature.locks || not (is_some o.signature.locks))
+        (signature_chain o.signature p.signature m.signature both.1 both.0 (signature_back m.signature p.signature same))
+        (or_right (is_some m.signature.locks) (not (is_some o.signature.locks)) (ap (λ b. b || not (is_some o.signature.locks)) (sym known) ∙ both.1))
+joined_keeps Apart m o accepted = refl
+
+joined_own : (k : Standing) (m : Heading) → accepts (joined_standing k m) m ≡ true
+joined_own Nowhere m = alike_self m
+joined_own (Alike p) m = by_parts (is_same_signature m.signature p.signature) refl (is_some p.signature.locks) refl
+  where
+    by_parts : (a : Bool) → is_same_signature m.signature p.signature ≡ a → (b : Bool) → is_some p.signature.locks ≡ b
+        → accepts (if a then (if b then Alike p else Alike m) else Apart) m ≡ true
+    by_parts false same b known = refl
+    by_parts true same true known =
+        and_from (is_same_signature m.signature p.signature) (is_some p.signature.locks || not (is_some m.signature.locks)) same
+        (or_left (is_some p.signature.locks) (not (is_some m.signature.locks)) known)
+    by_parts true same false known = alike_self m
+joined_own Apart m = refl
+
+-- ---- what is known of all names
+
+known_keeps : (known : List Standing) (n j : ℕ) (m o : Heading) → accepts (standing_at known j) o ≡ true → accepts (standing_at (slice_set known n (joined_standing (standing_at known n) m)) j) o ≡ true
+known_keeps [] n j m o accepted = refl
+known_keeps (k ∷ ks) zero zero m o accepted = joined_keeps k m o accepted
+known_keeps (k ∷ ks) zero (suc j) m o accepted = accepted
+known_keeps (k ∷ ks) (suc n) zero m o accepted = accepted
+known_keeps (k ∷ ks) (suc n) (suc j) m o accepted = known_keeps ks n j m o accepted
+
+known_own : (known : List Standing) (n : ℕ) (m : Heading) → accepts (standing_at (slice_set known n (joined_standing (standing_at known n) m)) n) m ≡ true
+known_own [] n m = refl
+known_own (k ∷ ks) zero m = joined_own k m
+known_own (k ∷ ks) (suc n) m = known_own ks n m
+
+set_back : (known : List Standing) (n : ℕ) (k : Standing) → slice_set (slice_set known n k) n (standing_at known n) ≡ known
+set_back [] n k = refl
+set_back (j ∷ js) zero k = refl
+set_back (j ∷ js) (suc n) k = ap (λ l. j ∷ l) (set_back js n k)
+
+-- what is taken back stands as before
+left_last : (n : ℕ) (d : LineState) → all_left (suc n) d ≡ left (all_left n d)
+left_last zero d = refl
+left_last (suc n) d = left_last n (left d)
+
+module _ (methods : ℕ → List Heading) (names : List (List ℕ)) where
+  left_entered : (ms : List Heading) (d : LineState) → all_left (length ms) (with_headings names ms d) ≡ d
+  left_entered [] d = refl
+  left_entered (m ∷ ms) d =
+      left_last (length ms) (with_headings names ms (with_heading names d m))
+      ∙ ap left (left_entered ms (with_heading names d m))
+      ∙ ap (λ l. record { known = l; saved = d.saved }) (set_back d.known (number_in names m.name.text) (joined_standing (standing_of names d.known m) m))
+
+  abbrev accepted : List Standing → Heading → Bool
+  accepted known m = accepts (standing_of names known m) m
+
+  kept : (ms : List Heading) (d : LineState) (o : Heading) → accepted d.known o ≡ true → accepted (with_headings names ms d).known o ≡ true
+  kept [] d o is = is
+  kept (m ∷ ms) d o is = kept ms (with_heading names d m) o (known_keeps d.known (number_in names m.name.text) (number_in names o.name.text) m o is)
+
+  all_kept : (ms : List Heading) (d : LineState) (os : List Heading) → list_all (accepted d.known) os ≡ true → list_all (accepted (with_headings names ms d).known) os ≡ true
+  all_kept ms d [] all = refl
+  all_kept ms d (o ∷ os) all =
+      let both = and_parts (accepted d.known o) (list_all (accepted d.known) os) all in
+      and_from (accepted (with_headings names ms d).known o) (list_all (accepted (with_headings names ms d).known) os) (kept ms d o both.0) (all_kept ms d os both.1)
+
+  own_accepted : (ms : List Heading) (d : LineState) → list_all (accepted (with_headings names ms d).known) ms ≡ true
+  own_accepted [] d = refl
+  own_accepted (m ∷ ms) d =
+      and_from (accepted (with_headings names ms (with_heading names d m)).known m) (list_all (accepted (with_headings names ms (with_heading names d m)).known) ms)
+      (kept ms (with_heading names d m) m (known_own d.known (number_in names m.name.text) m)) (own_accepted ms (with_heading names d m))
+
+  -- the methods of these classes are accepted
+  abbrev AreAccepted : List Standing → List ℕ → Type 0
+  AreAccepted known [] = Unit {0}
+  AreAccepted known (c ∷ cs) = list_all (accepted known) (methods c) ≡ true × AreAccepted known cs
+
+  along_kept : (ms : List Heading) (d : LineState) (cs : List ℕ) → AreAccepted d.known cs → AreAccepted (with_headings names ms d).known cs
+  along_kept ms d [] all = tt
+  along_kept ms d (c ∷ cs) all = (all_kept ms d (methods c) all.0, along_kept ms d cs all.1)
+
+  -- and so it is again as the walk goes up
+  abbrev IsHeld : List ℕ → LineState → Type 0
+  IsHeld [] d = Unit {0}
+  IsHeld (c ∷ cs) d = AreAccepted d.known (c ∷ cs) × IsHeld cs (all_left (length (methods c)) d)
+
+  held_accepted : (cs : List ℕ) (d : LineState) → IsHeld cs d → AreAccepted d.known cs
+  held_accepted [] d held = tt
+  held_accepted (c ∷ cs) d held = held.0
+
+  held_below : (c : ℕ) (cs : List ℕ) (d : LineState) → IsHeld cs d → IsHeld (c ∷ cs) (with_headings names (methods c) d)
+  held_below c cs d held = (
+    (own_accepted (methods c) d, along_kept (methods c) d cs (held_accepted cs d held)),
+    subst (IsHeld cs) (sym (left_entered (methods c) d)) held,
+  )
+
+  well_row : (known : List Standing) (m : Heading) (os : List Heading) → is_well (standing_of names known m) m ≡ true → list_all (accepted known) os ≡ true → AgreesWith m os
+  well_row known m [] well all = tt
+  well_row known m (o ∷ os) well all =
+      let both = and_parts (accepted known o) (list_all (accepted known) os) all in (
+        (λ same. well_same (standing_of names known m) m o well (ap (λ t. accepts (standing_at known (number_in names t)) o) ((bytes_eq-Decides m.name.text o.name.text).0 same) ∙ both.0)),
+        well_row known m os well both.1,
+      )
+
+  well_along : (known : List Standing) (m : Heading) (cs : List ℕ) → is_well (standing_of names known m) m ≡ true → AreAccepted known cs → AgreesAlong methods m cs
+  well_along known m [] well all = tt
+  well_along known m (c ∷ cs) well all = (well_row known m (methods c) well all.0, well_along known m cs well all.1)
+
+  counted : (known : List Standing) (line : List ℕ) → ((m : Heading) → is_well (standing_of names known m) m ≡ true → overrides_badly methods line m ≡ false)
+      → (ms : List Heading) → override_faults methods line (take (count_well names known ms) ms) ≡ []
+  counted known line each [] = refl
+  counted known line each (m ∷ ms) = by_well (is_well (standing_of names known m) m) refl (counted known line each ms)
+    where
+      by_well : (b : Bool) → is_well (standing_of names known m) m ≡ b → override_faults methods line (take (count_well names known ms) ms) ≡ []
+          → override_faults methods line (take (if b then suc (count_well names known ms) else 0) (m ∷ ms)) ≡ []
+      by_well true well rest =
+          ap (λ b. if b then BadOverride m.name.at ∷ override_faults methods line (take (count_well names known ms) ms) else override_faults methods line (take (count_well names known ms) ms)) (each m well) ∙ rest
+      by_well false well rest = refl
+
+-- ---- the line of a walk
+
+-- these classes stand in a line, the first of them at this place
+abbrev AreLine : (ℕ → Option ℕ) → Option ℕ → List ℕ → Type 0
+AreLine up at [] = at ≡ None
+AreLine up at (c ∷ cs) = (at ≡ Some c) × AreLine up (up c) cs
+
+along_ancestors : (methods : ℕ → List Heading) (up : ℕ → Option ℕ) (m : Heading) (n : ℕ) (at : Option ℕ) (cs : List ℕ) → AreLine up at cs → AgreesAlong methods m cs → AgreesAlong methods m (ancestors up n at)
+along_ancestors methods up m n at [] line alike = subst (λ o. AgreesAlong methods m (ancestors up n o)) (sym line) tt
+along_ancestors methods up m zero at (c ∷ cs) line alike = subst (λ o. AgreesAlong methods m (ancestors up zero o)) (sym line.0) tt
+along_ancestors methods up m (suc n) at (c ∷ cs) line alike =
+    subst (λ o. AgreesAlong methods m (ancestors up (suc n) o)) (sym line.0) (alike.0, along_ancestors methods up m n (up c) cs line.1 alike.1)
+
+-- those that are counted at a class override none badly
+counted_at : (tree : ProgramTree) (methods : ℕ → List Heading) (names : List (List ℕ)) (k : ℕ) (cs : List ℕ) (d : LineState) → AreLine (above tree) (above tree k) cs → IsHeld methods names cs d
+    → override_faults methods (ancestor_classes tree k) (take (count_well names d.known (methods k)) (methods k)) ≡ []
+counted_at tree methods names k cs d line held = by_circle (is_on_circle tree k)
+  where
+    by_circle : (b : Bool) → override_faults methods (if b then [] else ancestors (above tree) (length tree) (above tree k)) (take (count_well names d.known (methods k)) (methods k)) ≡ []
+    by_circle true = counted methods names d.known [] (λ m well. refl) (methods k)
+    by_circle false = counted methods names d.known (ancestors (above tree) (length tree) (above tree k))
+        (λ m well. no_clash_along methods m (ancestors (above tree) (length tree) (above tree k))
+        (along_ancestors methods (above tree) m (length tree) (above tree k) cs line (well_along methods names d.known m cs well (held_accepted methods names cs d held))))
+        (methods k)
+
+well_set : (well : List ℕ) (k n j : ℕ) → (well_at (slice_set well k n) j ≡ well_at well j) ⊎ ((j ≡ k) × (well_at (slice_set well k n) j ≡ n))
+well_set [] k n j = inl refl
+well_set (w ∷ ws) zero n zero = inr (refl, refl)
+well_set (w ∷ ws) zero n (suc j) = inl refl
+well_set (w ∷ ws) (suc k) n zero = inl refl
+well_set (w ∷ ws) (suc k) n (suc j) = elim (well_set ws k n j) as (λ _. (well_at (slice_set (w ∷ ws) (suc k) n) (suc j) ≡ well_at (w ∷ ws) (suc j)) ⊎ ((suc j ≡ suc k) × (well_at (slice_set (w ∷ ws) (suc k) n) (suc j) ≡ n))) [
+  | inl kept ↦ inl kept
+  | inr here ↦ inr (ap suc here.0, here.1)
+]
+
+well_written : (tree : ProgramTree) (methods : ℕ → List Heading) (well : List ℕ) (k n : ℕ) → AreWell tree methods well → override_faults methods (ancestor_classes tree k) (take n (methods k)) ≡ [] → AreWell tree methods (slice_set well k n)
+well_written tree methods well k n all here j = elim (well_set well k n j) as (λ _. override_faults methods (ancestor_classes tree j) (take (well_at (slice_set well k n) j) (methods j)) ≡ []) [
+  | inl kept ↦ ap (λ c. override_faults methods (ancestor_classes tree j) (take c (methods j))) kept ∙ all j
+  | inr same ↦
+      ap (λ c. override_faults methods (ancestor_classes tree j) (take c (methods j))) same.1
+      ∙ subst (λ i. override_faults methods (ancestor_classes tree i) (take n (methods i)) ≡ []) (sym same.0) here
+]
+
+-- where none is counted, all is well
+pub none_counted : (tree : ProgramTree) (methods : ℕ → List Heading) (n : ℕ) → AreWell tree methods (replicate n 0)
+none_counted tree methods n k = ap (λ c. override_faults methods (ancestor_classes tree k) (take c (methods k))) (nothing n k)
+  where
+    nothing : (n k : ℕ) → well_at (replicate n 0) k ≡ 0
+    nothing zero k = refl
+    nothing (suc n) zero = refl
+    nothing (suc n) (suc k) = nothing n k
+
+-- the walk stands at a class or above all, what is known is of the classes from there up, and what is noted is so
+pub record IsWalking (tree : ProgramTree) (above_each : List (Option ℕ)) (methods : ℕ → List Heading) (names : List (List ℕ)) (d : LineState) (well : List ℕ) (rest : List Step) : Type 0 where
+  pub line : List ℕ
+  pub at : Option ℕ
+  pub stands : AreLine (above tree) at line
+  pub held : IsHeld methods names line d
+  pub leads : Leads above_each at rest
+  pub good : AreWell tree methods well
+
+same_above : (tree : ProgramTree) (k : ℕ) → walks.above_in (all_above tree) k ≡ above tree k
+same_above tree k = ap (λ o. option_and_then (λ up. up) o) (slice_get-map (λ c. above_in tree (Some c)) tree k) ∙ by_class (slice_get tree k)
+  where
+    by_class : (o : Option ClassTree) → option_and_then (λ up. up) (option_map (λ c. above_in tree (Some c)) o) ≡ above_in tree o
+    by_class None = refl
+    by_class (Some c) = refl
+
+-- before the first step
+pub walk_begins : (tree : ProgramTree) (above_each : List (Option ℕ)) (methods : ℕ → List Heading) (names : List (List ℕ)) (d : LineState) (steps : List Step) (n : ℕ) → Leads above_each None steps
+    → IsWalking tree above_each methods names d (replicate n 0) steps
+walk_begins tree above_each methods names d steps n leads = record { line = []; at = None; stands = refl; held = tt; leads = leads; good = none_counted tree methods n }
+
+-- a step further
+pub walk_goes_on : (tree : ProgramTree) (above_each : List (Option ℕ)) (methods : ℕ → List Heading) (names : List (List ℕ)) (d : LineState) (well : List ℕ) (step : Step) (rest : List Step) → above_each ≡ all_above tree
+    → IsWalking tree above_each methods names d well (step ∷ rest)
+    → IsWalking tree above_each methods names (line_after methods names step d) (well_after methods names step d well) rest
+walk_goes_on tree above_each methods names d well (Down k) rest same walking =
+    let here : above tree k ≡ walking.at =
+    sym (same_above tree k) ∙ ap (λ l. walks.above_in l k) (sym same) ∙ ap (λ o. option_and_then (λ up. up) o) walking.leads.0 in
+    let line : AreLine (above tree) (above tree k) walking.line = subst (λ o. AreLine (above tree) o walking.line) (sym here) walking.stands in
+    record {
+      line = k ∷ walking.line;
+      at = Some k;
+      stands = (refl, line);
+      held = held_below methods names k walking.line d walking.held;
+      leads = walking.leads.1;
+      good = well_written tree methods well k (count_well names d.known (methods k)) walking.good (counted_at tree methods names k walking.line d line walking.held);
+    }
+walk_goes_on tree above_each methods names d well (Up k) rest same walking = by_line walking.line walking.stands walking.held
+  where
+    by_line : (cs : List ℕ) → AreLine (above tree) walking.at cs → IsHeld methods names cs d → IsWalking tree above_each methods names (all_left (length (methods k)) d) well rest
+    by_line [] stands held = absurd (let clash : Some k ≡ None = sym walking.leads.0 ∙ stands in cc)
+    by_line (c ∷ cs) stands held =
+        let one : c ≡ k = same_Some c k (sym stands.0 ∙ walking.leads.0) in
+        let next : above tree c ≡ walks.above_in above_each k = ap (above tree) one ∙ sym (same_above tree k) ∙ ap (λ l. walks.above_in l k) (sym same) in
+        record {
+          line = cs;
+          at = walks.above_in above_each k;
+          stands = subst (λ o. AreLine (above tree) o cs) next stands.1;
+          held = subst (λ i. IsHeld methods names cs (all_left (length (methods i)) d)) one held.1;
+          leads = walking.leads.1;
+          good = walking.good;
+        }
+
+all_walked : (tree : ProgramTree) (above_each : List (Option ℕ)) (methods : ℕ → List Heading) (names : List (List ℕ)) (d : LineState) (well : List ℕ) (steps : List Step) → above_each ≡ all_above tree
+    → IsWalking tree above_each methods names d well steps → AreWell tree methods (well_after_all methods names steps d well)
+all_walked tree above_each methods names d well [] same walking = walking.good
+all_walked tree above_each methods names d well (step ∷ rest) same walking =
+    all_walked tree above_each methods names (line_after methods names step d) (well_after methods names step d well) rest same
+    (walk_goes_on tree above_each methods names d well step rest same walking)
+
+-- after a whole walk all is well
+pub walked_well : (tree : ProgramTree) (above_each : List (Option ℕ)) (methods : ℕ → List Heading) (names : List (List ℕ)) (d : LineState) (n : ℕ) (steps : List Step) → above_each ≡ all_above tree
+    → Leads above_each None steps → AreWell tree methods (well_after_all methods names steps d (replicate n 0))
+walked_well tree above_each methods names d n steps same leads = all_walked tree above_each methods names d (replicate n 0) steps same (walk_begins tree above_each methods names d steps n leads)
+
+-- what is written into a list, seen as data
+seen_set : {A B : Type 0} (f : A → B) (xs : List A) (n : ℕ) (x : A) → map f (slice_set xs n x) ≡ slice_set (map f xs) n (f x)
+seen_set f [] n x = refl
+seen_set f (y ∷ ys) zero x = refl
+seen_set f (y ∷ ys) (suc n) x = ap (λ l. f y ∷ l) (seen_set f ys n x)
+
+module _ {A : Type 0} (x : A) where
+  one_more : (xs : List A) → length (xs ++ x ∷ []) ≡ suc (length xs)
+  one_more [] = refl
+  one_more (y ∷ ys) = ap suc (one_more ys)
+
+  last_one : (xs : List A) (d : A) → slice_index_or (xs ++ x ∷ []) (length xs) d ≡ x
+  last_one [] d = refl
+  last_one (y ∷ ys) d = last_one ys d
+
+  but_last : (xs : List A) → take (length xs) (xs ++ x ∷ []) ≡ xs
+  but_last [] = refl
+  but_last (y ∷ ys) = ap (λ l. y ∷ l) (but_last ys)
+
+  but_last_set : (xs : List A) (n : ℕ) → take (length xs) (slice_set (xs ++ x ∷ []) n x) ≡ slice_set xs n x
+  but_last_set [] n = refl
+  but_last_set (y ∷ ys) zero = ap (λ l. x ∷ l) (but_last ys)
+  but_last_set (y ∷ ys) (suc n) = ap (λ l. y ∷ l) (but_last_set ys n)
+
+  -- what comes last, and then takes the place of another
+  last_in_place : (xs : List A) (n : ℕ) (d : A) → swap_remove (xs ++ x ∷ []) n d ≡ slice_set xs n x
+  last_in_place xs n d =
+      let one : suc (length xs) - 1 ≡ length xs = omega arith in
+      ap (λ l. take l (slice_set (xs ++ x ∷ []) n (slice_index_or (xs ++ x ∷ []) l d))) (ap (λ l. l - 1) (one_more xs) ∙ one)
+      ∙ ap (λ y. take (length xs) (slice_set (xs ++ x ∷ []) n y)) (last_one xs d)
+      ∙ but_last_set xs n
+
+-- the same, seen as data
+pub put_in_place : {A B : Type 0} (f : A → B) (xs : List A) (n : ℕ) (x d : A) → map f (swap_remove (xs ++ x ∷ []) n d) ≡ slice_set (map f xs) n (f x)
+put_in_place f xs n x d = ap (map f) (last_in_place x xs n d) ∙ seen_set f xs n x
 
 none_above : (methods : ℕ → List Heading) (ms : List Heading) → override_faults methods [] ms ≡ []
 none_above methods [] = refl
 none_above methods (m ∷ ms) = none_above methods ms
 
--- where each method overrides well, no class has such a fault
-pub none_overrides_badly : (tree : ProgramTree) (pattern : List ℕ → Option Heading) (methods : ℕ → List Heading) (k : ℕ) → AreFitting pattern methods → AllOverrideWell tree methods pattern → override_faults methods (ancestor_classes tree k) (methods k) ≡ []
-none_overrides_badly tree pattern methods k fit each = by_circle (is_on_circle tree k)
-  where
-    by_circle : (b : Bool) → override_faults methods (if b then [] else ancestors (above tree) (length tree) (above tree k)) (methods k) ≡ []
-    by_circle true = none_above methods (methods k)
-    by_circle false = no_faults pattern methods (above tree) (length tree) (length tree) (length tree) (above tree k) fit each (methods k) (each k)
-
--- on or below a circle, no class has one
+-- on or below a circle, no class has such a fault
 pub none_on_circle : (tree : ProgramTree) (methods : ℕ → List Heading) (k : ℕ) → is_on_circle tree k ≡ true → override_faults methods (ancestor_classes tree k) (methods k) ≡ []
 none_on_circle tree methods k circle = ap (λ b. override_faults methods (if b then [] else ancestors (above tree) (length tree) (above tree k)) (methods k)) circle ∙ none_above methods (methods k)
 
--- ---- rows
+-- where those in front have none, the others have all faults
+rest_faults : (methods : ℕ → List Heading) (line : List ℕ) (n : ℕ) (ms : List Heading) → override_faults methods line (take n ms) ≡ [] → override_faults methods line (drop n ms) ≡ override_faults methods line ms
+rest_faults methods line zero ms none = refl
+rest_faults methods line (suc n) [] none = refl
+rest_faults methods line (suc n) (m ∷ ms) none = by_bad (overrides_badly methods line m) none (rest_faults methods line n ms)
+  where
+    by_bad : (b : Bool) → (if b then BadOverride m.name.at ∷ override_faults methods line (take n ms) else override_faults methods line (take n ms)) ≡ []
+        → (override_faults methods line (take n ms) ≡ [] → override_faults methods line (drop n ms) ≡ override_faults methods line ms)
+        → override_faults methods line (drop n ms) ≡ (if b then BadOverride m.name.at ∷ override_faults methods line ms else override_faults methods line ms)
+    by_bad true none more = absurd (let clash : BadOverride m.name.at ∷ override_faults methods line (take n ms) ≡ [] = none in cc)
+    by_bad false none more = more none
 
--- of a method in each row
-pub rows_fit : (f : Heading → Bool) (rows : List (List Heading)) → list_all (list_all f) rows ≡ true → (k : ℕ) → list_all f (class_headings rows k) ≡ true
-rows_fit f [] all k = refl
-rows_fit f (row ∷ rows) all zero = (and_parts (list_all f row) (list_all (list_all f) rows) all).0
-rows_fit f (row ∷ rows) all (suc k) = rows_fit f rows (and_parts (list_all f row) (list_all (list_all f) rows) all).1 k
+-- a class that isn't on or below a circle has the faults of the methods behind those that are well
+pub off_circle : (tree : ProgramTree) (methods : ℕ → List Heading) (well : List ℕ) (k : ℕ) → is_on_circle tree k ≡ false → AreWell tree methods well
+    → override_faults methods (ancestors_of tree k) (drop (well_at well k) (methods k)) ≡ override_faults methods (ancestor_classes tree k) (methods k)
+off_circle tree methods well k off all =
+    ap (λ b. override_faults methods (if b then [] else ancestors_of tree k) (drop (well_at well k) (methods k))) (sym off)
+    ∙ rest_faults methods (ancestor_classes tree k) (well_at well k) (methods k) (all k)
 
--- where nothing stands for others, all is well
-pub none_fit : (pattern : List ℕ → Option Heading) (methods : ℕ → List Heading) → ((text : List ℕ) → pattern text ≡ None) → AreFitting pattern methods
-none_fit pattern methods none k = each (methods k) where
-  each : (ms : List Heading) → list_all (fits_pattern pattern) ms ≡ true
-  each [] = refl
-  each (m ∷ ms) = and_from (fits_pattern pattern m) (list_all (fits_pattern pattern) ms) (ap (λ z. alike_or true z m) (none m.name.text)) (each ms)
-
-module _ (pattern : List ℕ → Option Heading) (methods : ℕ → List Heading) (up : ℕ → Option ℕ) (n : ℕ) where
-  rows_at : (k : ℕ) (rows : List (List Heading)) → rows_override_well pattern methods up n k rows ≡ true → (j : ℕ) → all_override_well pattern methods up n (up (k + j)) (row_in (slice_get rows j)) ≡ true
-  rows_at k [] all j = refl
-  rows_at k (row ∷ rows) all zero =
-      let e0 : k ≡ k + 0 = omega arith in
-      subst (λ c. all_override_well pattern methods up n (up c) row ≡ true) e0 (and_parts (all_override_well pattern methods up n (up k) row) (rows_override_well pattern methods up n (k + 1) rows) all).0
-  rows_at k (row ∷ rows) all (suc j) =
-      let e1 : k + 1 + j ≡ k + suc j = omega arith in
-      subst (λ c. all_override_well pattern methods up n (up c) (row_in (slice_get rows j)) ≡ true) e1
-      (rows_at (k + 1) rows (and_parts (all_override_well pattern methods up n (up k) row) (rows_override_well pattern methods up n (k + 1) rows) all).1 j)
-
-pub all_rows_override_well : (tree : ProgramTree) (pattern : List ℕ → Option Heading) (rows : List (List Heading)) → rows_override_well pattern (class_headings rows) (above tree) (length tree) 0 rows ≡ true → AllOverrideWell tree (class_headings rows) pattern
-all_rows_override_well tree pattern rows all k =
-    let e : 0 + k ≡ k = omega arith in
-    subst (λ c. all_override_well pattern (class_headings rows) (above tree) (length tree) (above tree c) (row_in (slice_get rows k)) ≡ true) e (rows_at pattern (class_headings rows) (above tree) (length tree) 0 rows all k)
-
--- one class further up, where this one has no method of the name
-pub alike_later : (methods : ℕ → List Heading) (up : ℕ → Option ℕ) (left class : ℕ) (m : Heading) (whole : Bool) → 0 < left → alike_above methods up left (Some class) m ≡ whole
-    → list_any (same_name m) (methods class) ≡ false → alike_above methods up (left - 1) (up class) m ≡ whole
-alike_later methods up zero class m whole some so_far none = absurd (omega (arith, some))
-alike_later methods up (suc left) class m whole some so_far none =
-    let e : left ≡ suc left - 1 = omega arith in
-    subst (λ n. alike_above methods up n (up class) m ≡ whole) e
-    (sym (ap (λ b. if b then list_all (alike_if_named m) (methods class) else alike_above methods up left (up class) m) none) ∙ so_far)
+pub well_of_walk : (tree : ProgramTree) (above_each seen : List (Option ℕ)) (methods : ℕ → List Heading) (names : List (List ℕ)) (d : LineState) (n : ℕ) (steps taken : List Step) (well start : List ℕ)
+    → above_each ≡ all_above tree → seen ≡ above_each → Leads seen None steps → taken ≡ steps → start ≡ replicate n 0 → well ≡ well_after_all methods names taken d start → AreWell tree methods well
+well_of_walk tree above_each seen methods names d n steps taken well start same seen_is leads taken_is start_is well_is =
+    subst (AreWell tree methods) (sym (well_is ∙ ap (λ s. well_after_all methods names s d start) taken_is ∙ ap (well_after_all methods names steps d) start_is))
+    (walked_well tree seen methods names d n steps (seen_is ∙ same) leads)

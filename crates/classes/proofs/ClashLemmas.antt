@@ -1,11 +1,10 @@
 -- Which methods override one badly, class by class, and which faults are told.
 use Rattle.std.proofs.Common.{◌≡◌, ℕ, ◌-◌, ◌<◌, Bool, true, false, ◌||◌, List, [], ◌∷◌, Option, Some, None, refl, sym, ap, ◌∙◌, if◌then◌else◌}
 use Rattle.std.specs.List.{list_any}
-use Rattle.syntax.specs.Trees.{ProgramTree}
 use Rattle.classes.specs.declared.fault.ClassFault.{ClassFault}
 use Rattle.classes.specs.First.{is_told}
-use Rattle.classes.specs.Faults.{class_fault_place, override_faults}
-use Rattle.classes.specs.Lines.{ancestors, ancestors_of, is_on_circle, ancestor_classes}
+use Rattle.classes.specs.Faults.{class_fault_place}
+use Rattle.classes.specs.Lines.{ancestors}
 use Rattle.classes.specs.Noted.{noted}
 use Rattle.classes.specs.Overriding.{Heading, clashes, overrides_badly}
 use Rattle.classes.proofs.Climbing.{next_ancestor}
@@ -23,8 +22,3 @@ pub untold : (first : Option ClassFault) (f : ClassFault) (stands : Bool) → is
 untold first f false told = refl
 untold None f true told = absurd (let clash : true ≡ false = told in cc)
 untold (Some g) f true told = ap (λ b. Some (if b then f else g)) (sym told)
-
--- a class that isn't on or below a circle inherits from its ancestors
-pub off_circle : (tree : ProgramTree) (methods : ℕ → List Heading) (k : ℕ) → is_on_circle tree k ≡ false
-    → override_faults methods (ancestors_of tree k) (methods k) ≡ override_faults methods (ancestor_classes tree k) (methods k)
-off_circle tree methods k off = ap (λ b. override_faults methods (if b then [] else ancestors_of tree k) (methods k)) (sym off)

@@ -11,7 +11,8 @@ pub mod Parted
 mod Repeats
 mod Wholes
 mod Alone
-mod AlikeLemmas
+mod Signatures
+pub mod AlikeLemmas
 mod ClashLemmas
 pub mod OwnLemmas
 pub mod Leasts

@@ -1,64 +1,121 @@
--- A test that shows by the nearest methods alone that no method overrides one that it may not override.
-use Rattle.std.specs.Prelude.{◌≡◌, ℕ, zero, suc, ◌+◌, Bool, true, false, not, ◌&&◌, ◌||◌, List, [], ◌∷◌, length, Option, Some, None, bytes_eq, if◌then◌else◌}
-use Rattle.std.specs.List.{list_any, list_all}
+-- What is known of the methods of each name in a line of classes, and which methods override well by it. A walk keeps it: as it goes
+-- down to a class it adds the methods of this class, and as it goes up it takes back what it wrote.
+use Rattle.std.specs.Prelude.{◌≡◌, ℕ, zero, suc, Bool, true, false, not, ◌&&◌, ◌||◌, List, [], ◌∷◌, length, take, position, slice_get, slice_set, unwrap_or, bytes_eq, if◌then◌else◌}
 use Rattle.std.specs.Option.{is_some}
 use Rattle.syntax.specs.Trees.{ProgramTree}
-use Rattle.classes.specs.Lines.{above}
+use Rattle.forest.specs.declared.steps.Step.{Step}
+use Rattle.forest.specs.declared.steps.Step.TheVariants.{Down, Up}
+use Rattle.classes.specs.Lines.{ancestor_classes}
 use Rattle.classes.specs.Overriding.{Heading, is_same_signature}
-
--- whether two methods have one name
-abbrev pub same_name : Heading → Heading → Bool
-same_name m n = bytes_eq m.name.text n.name.text
+use Rattle.classes.specs.Faults.{override_faults}
 
 -- whether a method has the signature of another, and of that the locks are known where its own are
 abbrev pub is_alike : Heading → Heading → Bool
 is_alike m n = is_same_signature m.signature n.signature && (is_some n.signature.locks || not (is_some m.signature.locks))
 
--- whether it is, where both have one name
-abbrev pub alike_if_named : Heading → Heading → Bool
-alike_if_named m n = if same_name m n then is_alike m n else true
+-- ---- one name
 
--- whether a method is alike with those of its name in the first class that has some: this one, the one above it, and so on, at most so many
-abbrev pub alike_above : (ℕ → List Heading) → (ℕ → Option ℕ) → (steps : ℕ) → Option ℕ → Heading → Bool
-alike_above methods up n None m = true
-alike_above methods up zero (Some c) m = false
-alike_above methods up (suc n) (Some c) m =
-    if list_any (same_name m) (methods c) then list_all (alike_if_named m) (methods c) else alike_above methods up n (up c) m
+-- of the methods with one name: there are none, all are alike with this one, or two may be apart
+pub data Standing : Type 0 where
+  Nowhere : Standing
+  Alike : Heading → Standing
+  Apart : Standing
 
--- ---- methods that stand for all of their name
+-- whether this is true of a method with the name
+abbrev pub accepts : Standing → Heading → Bool
+accepts Nowhere m = false
+accepts (Alike n) m = is_alike m n
+accepts Apart m = true
 
--- whether a method is alike with this one; where there is none, this is told
-abbrev pub alike_or : Bool → Option Heading → Heading → Bool
-alike_or missing None m = missing
-alike_or missing (Some n) m = is_alike m n
+-- whether a method has the signature of each of them, by what is known
+abbrev pub is_well : Standing → Heading → Bool
+is_well Nowhere m = true
+is_well (Alike n) m = is_same_signature m.signature n.signature
+is_well Apart m = false
 
--- whether a method is alike with the one that stands for all of its name, if one does
-abbrev pub fits_pattern : (List ℕ → Option Heading) → Heading → Bool
-fits_pattern pattern m = alike_or true (pattern m.name.text) m
+-- what is known of them and one more. Where the locks of some are known, those of the one that all are alike with are
+abbrev pub joined_standing : Standing → Heading → Standing
+joined_standing Nowhere m = Alike m
+joined_standing (Alike n) m = if is_same_signature m.signature n.signature then (if is_some n.signature.locks then Alike n else Alike m) else Apart
+joined_standing Apart m = Apart
 
--- whether one stands for all of its name, and it is alike with that
-abbrev pub has_pattern : (List ℕ → Option Heading) → Heading → Bool
-has_pattern pattern m = alike_or false (pattern m.name.text) m
+-- ---- all names
 
--- each method of each class is alike with the one that stands for all of its name, if one does
-abbrev pub AreFitting : (List ℕ → Option Heading) → (ℕ → List Heading) → Type 0
-AreFitting pattern methods = (k : ℕ) → list_all (fits_pattern pattern) (methods k) ≡ true
+-- what is known at a place
+abbrev pub standing_at : List Standing → ℕ → Standing
+standing_at known n = unwrap_or (slice_get known n) Apart
 
--- ---- all methods
+-- the number of a name among these; a name that is not there has the number behind them
+abbrev pub number_in : List (List ℕ) → List ℕ → ℕ
+number_in names text = unwrap_or (position (bytes_eq text) names) (length names)
 
--- whether a method is alike with the one that stands for all of its name, or with the nearest ones
-abbrev pub overrides_well : (List ℕ → Option Heading) → (ℕ → List Heading) → (ℕ → Option ℕ) → (steps : ℕ) → Option ℕ → Heading → Bool
-overrides_well pattern methods up n next m = has_pattern pattern m || alike_above methods up n next m
+-- what is known of the name of a method
+abbrev pub standing_of : List (List ℕ) → List Standing → Heading → Standing
+standing_of names known m = standing_at known (number_in names m.name.text)
 
--- whether each of some methods is, in the class that a class extends or above that
-abbrev pub all_override_well : (List ℕ → Option Heading) → (ℕ → List Heading) → (ℕ → Option ℕ) → (steps : ℕ) → Option ℕ → List Heading → Bool
-all_override_well pattern methods up n next ms = list_all (overrides_well pattern methods up n next) ms
+-- how many of these methods, from the first on, override well
+abbrev pub count_well : List (List ℕ) → List Standing → List Heading → ℕ
+count_well names known [] = 0
+count_well names known (m ∷ ms) = if is_well (standing_of names known m) m then suc (count_well names known ms) else 0
 
--- whether those of each of these classes are, where the first has the number k
-abbrev pub rows_override_well : (List ℕ → Option Heading) → (ℕ → List Heading) → (ℕ → Option ℕ) → (steps k : ℕ) → List (List Heading) → Bool
-rows_override_well pattern methods up n k [] = true
-rows_override_well pattern methods up n k (row ∷ rows) = all_override_well pattern methods up n (up k) row && rows_override_well pattern methods up n (k + 1) rows
+-- ---- a line of classes
 
--- each method of each class is
-abbrev pub AllOverrideWell : ProgramTree → (ℕ → List Heading) → (List ℕ → Option Heading) → Type 0
-AllOverrideWell tree methods pattern = (k : ℕ) → all_override_well pattern methods (above tree) (length tree) (above tree k) (methods k) ≡ true
+-- what was known of the name with a number
+pub record Saved : Type 0 where
+  pub number : ℕ
+  pub known : Standing
+
+-- what is known of each name, and what was known before, the last first
+pub record LineState : Type 0 where
+  pub known : List Standing
+  pub saved : List Saved
+
+-- with one more method
+abbrev pub with_heading : List (List ℕ) → LineState → Heading → LineState
+with_heading names d m = record {
+  known = slice_set d.known (number_in names m.name.text) (joined_standing (standing_of names d.known m) m);
+  saved = record { number = number_in names m.name.text; known = standing_of names d.known m } ∷ d.saved;
+}
+
+-- with these methods
+abbrev pub with_headings : List (List ℕ) → List Heading → LineState → LineState
+with_headings names [] d = d
+with_headings names (m ∷ ms) d = with_headings names ms (with_heading names d m)
+
+-- without the last method
+abbrev pub left_from : List Standing → List Saved → LineState
+left_from known [] = record { known = known; saved = [] }
+left_from known (s ∷ ss) = record { known = slice_set known s.number s.known; saved = ss }
+
+abbrev pub left : LineState → LineState
+left d = left_from d.known d.saved
+
+-- without so many
+abbrev pub all_left : ℕ → LineState → LineState
+all_left zero d = d
+all_left (suc n) d = all_left n (left d)
+
+-- after a step of a walk
+abbrev pub line_after : (ℕ → List Heading) → List (List ℕ) → Step → LineState → LineState
+line_after methods names (Down k) d = with_headings names (methods k) d
+line_after methods names (Up k) d = all_left (length (methods k)) d
+
+-- ---- methods that override well
+
+-- how many methods of a class, from the first on, override well, where so many of each class do
+abbrev pub well_at : List ℕ → ℕ → ℕ
+well_at well k = unwrap_or (slice_get well k) 0
+
+-- these numbers after a step of a walk
+abbrev pub well_after : (ℕ → List Heading) → List (List ℕ) → Step → LineState → List ℕ → List ℕ
+well_after methods names (Down k) d well = slice_set well k (count_well names d.known (methods k))
+well_after methods names (Up k) d well = well
+
+-- these numbers after these steps of a walk
+abbrev pub well_after_all : (ℕ → List Heading) → List (List ℕ) → List Step → LineState → List ℕ → List ℕ
+well_after_all methods names [] d well = well
+well_after_all methods names (step ∷ rest) d well = well_after_all methods names rest (line_after methods names step d) (well_after methods names step d well)
+
+-- none of so many methods of each class, from the first on, overrides one that it may not override
+abbrev pub AreWell : ProgramTree → (ℕ → List Heading) → List ℕ → Type 0
+AreWell tree methods well = (k : ℕ) → override_faults methods (ancestor_classes tree k) (take (well_at well k) (methods k)) ≡ []

@@ -1,6 +1,6 @@
 //! Finds the first fault of a program's classes.
 
-ghost use Rattle.std.specs.Prelude.{◌≡◌, ◌⊎◌, ◌||◌, ℕ, true, not, List, ◌++◌, ◌∷◌, [], None, map, IfOk, OnOk, OnErr, if◌then◌else◌};
+ghost use Rattle.std.specs.Prelude.{◌≡◌, ◌⊎◌, ◌||◌, ℕ, not, List, ◌++◌, ◌∷◌, [], None, map, IfOk, OnOk, OnErr, if◌then◌else◌};
 ghost use Rattle.syntax.specs.Views.{member_of, class_of, program_tree};
 ghost use Rattle.classes.specs.Names.{has_text, with_text, distinct};
 ghost use Rattle.classes.specs.declared.fault.ClassFault.TheVariants as kind;
@@ -8,14 +8,13 @@ ghost use Rattle.classes.specs.Members.{class_names};
 ghost use Rattle.classes.specs.Lines.{all_members, members_at};
 ghost use Rattle.classes.specs.Climbs.{HaveSameFields};
 ghost use Rattle.classes.specs.Lines as lines;
-ghost use Rattle.classes.specs.Alike.{AllOverrideWell, AreFitting};
-ghost use Rattle.classes.specs.Patterns.{pattern_of};
+ghost use Rattle.classes.specs.Alike.{AreWell};
 ghost use Rattle.classes.specs.Faults.{twice_faults, circle_faults, other_faults, class_faults, class_faults_from, is_main, missing_main, all_class_faults};
 ghost use Rattle.classes.specs.Families.{members_along, first_places, tree_of, IsFamily, rows_data, class_headings, AreHeadings};
 ghost use Rattle.classes.specs.Own.{all_own_names};
 ghost use Rattle.classes.specs.Noted.{noted};
 
-use crate::alike::classes_override_well;
+use crate::alike::well_overriding;
 use crate::clashes::{Inheritance, note_bad_overrides};
 use crate::constructors::{has_finals, note_constructors, note_missing_constructor};
 use crate::family::{Family, reversed};
@@ -27,7 +26,6 @@ use crate::names::NameSet;
 use crate::numbered_fields::field_at;
 use crate::overriding::headings_where_inherited;
 use crate::own::OwnNames;
-use crate::patterns::patterns_of;
 use crate::starts::have_entry;
 use std::alloc::{AllocError as NoMemory, Global};
 use syntax::{Class, Name, Program};
@@ -69,8 +67,7 @@ fn note_others(
 ) -> Result<Option<ClassFault>, NoMemory>
     requires family { IsFamily inheritance.now.family.now }
     requires rows { AreHeadings (tree_of inheritance.now.family.now) (class_headings (rows_data inheritance.now.headings.now)) }
-    requires well { inheritance.now.all_override_well ≡ true → AllOverrideWell (tree_of inheritance.now.family.now) (class_headings (rows_data inheritance.now.headings.now)) (pattern_of inheritance.now.patterns.now) }
-    requires fitting { AreFitting (pattern_of inheritance.now.patterns.now) (class_headings (rows_data inheritance.now.headings.now)) }
+    requires well { AreWell (tree_of inheritance.now.family.now) (class_headings (rows_data inheritance.now.headings.now)) inheritance.now.well.now }
     requires own { members_at (tree_of inheritance.now.family.now) number ≡ map member_of class.now.members.items }
     requires order { HaveSameFields (members_along (tree_of inheritance.now.family.now) order.now) (all_members (tree_of inheritance.now.family.now) number) }
     ensures { IfOk result (λ f. f ≡ noted first (other_faults (tree_of inheritance.now.family.now) number (class_of class.now))) }
@@ -93,15 +90,14 @@ fn note_others(
 
 /// The faults of a class that extends none.
 fn note_alone<'p, 'a>(
-    inheritance: &Inheritance<'_, '_, 'p, 'a>,
+    inheritance: &Inheritance<'_, 'p, 'a>,
     number: usize,
     class: &Class<'a>,
     first: Option<ClassFault>,
 ) -> Result<Option<ClassFault>, NoMemory>
     requires family { IsFamily inheritance.now.family.now }
     requires rows { AreHeadings (tree_of inheritance.now.family.now) (class_headings (rows_data inheritance.now.headings.now)) }
-    requires well { inheritance.now.all_override_well ≡ true → AllOverrideWell (tree_of inheritance.now.family.now) (class_headings (rows_data inheritance.now.headings.now)) (pattern_of inheritance.now.patterns.now) }
-    requires fitting { AreFitting (pattern_of inheritance.now.patterns.now) (class_headings (rows_data inheritance.now.headings.now)) }
+    requires well { AreWell (tree_of inheritance.now.family.now) (class_headings (rows_data inheritance.now.headings.now)) inheritance.now.well.now }
     requires own { members_at (tree_of inheritance.now.family.now) number ≡ map member_of class.now.members.items }
     requires alone { lines.above (tree_of inheritance.now.family.now) number ≡ None }
     ensures { IfOk result (λ f. f ≡ noted first (class_faults (tree_of inheritance.now.family.now) number (class_of class.now))) }
@@ -120,15 +116,14 @@ fn note_alone<'p, 'a>(
 
 /// The faults of a class.
 fn note_class<'p, 'a>(
-    inheritance: &Inheritance<'_, '_, 'p, 'a>,
+    inheritance: &Inheritance<'_, 'p, 'a>,
     number: usize,
     class: &Class<'a>,
     first: Option<ClassFault>,
 ) -> Result<Option<ClassFault>, NoMemory>
     requires family { IsFamily inheritance.now.family.now }
     requires rows { AreHeadings (tree_of inheritance.now.family.now) (class_headings (rows_data inheritance.now.headings.now)) }
-    requires well { inheritance.now.all_override_well ≡ true → AllOverrideWell (tree_of inheritance.now.family.now) (class_headings (rows_data inheritance.now.headings.now)) (pattern_of inheritance.now.patterns.now) }
-    requires fitting { AreFitting (pattern_of inheritance.now.patterns.now) (class_headings (rows_data inheritance.now.headings.now)) }
+    requires well { AreWell (tree_of inheritance.now.family.now) (class_headings (rows_data inheritance.now.headings.now)) inheritance.now.well.now }
     requires own { members_at (tree_of inheritance.now.family.now) number ≡ map member_of class.now.members.items }
     ensures { IfOk result (λ f. f ≡ noted first (class_faults (tree_of inheritance.now.family.now) number (class_of class.now))) }
 {
@@ -140,15 +135,14 @@ fn note_class<'p, 'a>(
 
 /// The faults of a class that may extend another.
 fn note_heir<'p, 'a>(
-    inheritance: &Inheritance<'_, '_, 'p, 'a>,
+    inheritance: &Inheritance<'_, 'p, 'a>,
     number: usize,
     class: &Class<'a>,
     first: Option<ClassFault>,
 ) -> Result<Option<ClassFault>, NoMemory>
     requires family { IsFamily inheritance.now.family.now }
     requires rows { AreHeadings (tree_of inheritance.now.family.now) (class_headings (rows_data inheritance.now.headings.now)) }
-    requires well { inheritance.now.all_override_well ≡ true → AllOverrideWell (tree_of inheritance.now.family.now) (class_headings (rows_data inheritance.now.headings.now)) (pattern_of inheritance.now.patterns.now) }
-    requires fitting { AreFitting (pattern_of inheritance.now.patterns.now) (class_headings (rows_data inheritance.now.headings.now)) }
+    requires well { AreWell (tree_of inheritance.now.family.now) (class_headings (rows_data inheritance.now.headings.now)) inheritance.now.well.now }
     requires own { members_at (tree_of inheritance.now.family.now) number ≡ map member_of class.now.members.items }
     ensures { IfOk result (λ f. f ≡ noted first (class_faults (tree_of inheritance.now.family.now) number (class_of class.now))) }
 {
@@ -175,8 +169,7 @@ fn note_classes(
 ) -> Result<Option<ClassFault>, NoMemory>
     requires family { IsFamily inheritance.now.family.now }
     requires rows { AreHeadings (tree_of inheritance.now.family.now) (class_headings (rows_data inheritance.now.headings.now)) }
-    requires well { inheritance.now.all_override_well ≡ true → AllOverrideWell (tree_of inheritance.now.family.now) (class_headings (rows_data inheritance.now.headings.now)) (pattern_of inheritance.now.patterns.now) }
-    requires fitting { AreFitting (pattern_of inheritance.now.patterns.now) (class_headings (rows_data inheritance.now.headings.now)) }
+    requires well { AreWell (tree_of inheritance.now.family.now) (class_headings (rows_data inheritance.now.headings.now)) inheritance.now.well.now }
     ensures { IfOk result (λ f. f ≡ noted first (class_faults_from (tree_of inheritance.now.family.now) 0 (tree_of inheritance.now.family.now))) }
 {
     let mut found = first;
@@ -287,13 +280,12 @@ fn note_all<'p, 'a>(
     let family = Family::new(alloc, classes, names, own, firsts)?;
     let headings = headings_where_inherited(alloc, &family)?;
     let headings = headings.as_slice();
-    let patterns = patterns_of(alloc, headings)?;
+    let well = well_overriding(alloc, &family, headings)?;
     let inheritance = Inheritance {
         alloc,
         family: &family,
         headings,
-        patterns: &patterns,
-        all_override_well: classes_override_well(&family, headings, &patterns),
+        well: well.as_slice(),
     };
     let found = note_classes(&inheritance, first)?;
     note_missing_main(alloc, &family, found)

@@ -1,33 +1,29 @@
 //! Notes the methods that override one with another signature.
 
-ghost use Rattle.std.specs.Prelude.{◌≡◌, ◌∷◌, [], true, map, if◌then◌else◌};
+ghost use Rattle.std.specs.Prelude.{◌≡◌, ◌≤◌, ◌∷◌, [], map, length, drop, if◌then◌else◌};
 ghost use Rattle.std.specs.List.{list_any};
 ghost use Rattle.classes.specs.declared.fault.ClassFault.TheVariants as kind;
 ghost use Rattle.classes.specs.Overriding.{clashes, overrides_badly};
 ghost use Rattle.classes.specs.Faults.{override_faults};
 ghost use Rattle.classes.specs.Families.{tree_of, IsFamily, heading_data, rows_data, class_headings};
 ghost use Rattle.classes.specs.Lines.{ancestors_of, ancestor_classes};
-ghost use Rattle.classes.specs.Alike.{AllOverrideWell, AreFitting};
-ghost use Rattle.classes.specs.Patterns.{pattern_of};
+ghost use Rattle.classes.specs.Alike.{well_at, AreWell};
 ghost use Rattle.classes.specs.Noted.{noted};
 
 use crate::family::Family;
 use crate::fault::ClassFault;
 use crate::first::{first_of, is_told};
 use crate::overriding::{Heading, is_same_signature};
-use crate::patterns::Patterns;
 use std::alloc::Global;
 
 /// What the faults of a class are found by: memory, which class extends which, the headings of the methods of each class
-/// where one extends another, methods that stand for all of their name, and whether these and the nearest methods show
-/// that none overrides one badly.
+/// where one extends another, and for each class how many of its methods, from the first on, are known to override well.
 #[derive(Clone, Copy)]
-pub(crate) struct Inheritance<'f, 'h, 'p, 'a> {
+pub(crate) struct Inheritance<'f, 'p, 'a> {
     pub(crate) alloc: Global,
     pub(crate) family: &'f Family<'p, 'a>,
     pub(crate) headings: &'f [Vec<Heading<'p, 'a>>],
-    pub(crate) patterns: &'f Patterns<'h, 'p, 'a>,
-    pub(crate) all_override_well: bool,
+    pub(crate) well: &'f [usize],
 }
 
 /// Whether two methods have one name and may not override each other.
@@ -80,24 +76,20 @@ fn overrides_badly(family: &Family, rows: &[Vec<Heading>], number: usize, one: &
 }
 
 /// The first fault so far, or that a method of a class overrides one that it may not override. It is looked for only where it
-/// would be told, and where no method stands for all of its name.
+/// would be told.
 fn note_clash(
     inheritance: &Inheritance,
     number: usize,
     one: &Heading,
     first: Option<ClassFault>,
 ) -> Option<ClassFault>
-    requires family { IsFamily inheritance.now.family.now }
-    requires fitting { AreFitting (pattern_of inheritance.now.patterns.now) (class_headings (rows_data inheritance.now.headings.now)) }
+    requires { IsFamily inheritance.now.family.now }
     ensures { result ≡ noted first (if overrides_badly (class_headings (rows_data inheritance.now.headings.now)) (ancestors_of (tree_of inheritance.now.family.now) number) (heading_data one.now)
         then kind.BadOverride one.now.name.now.at ∷ [] else []) }
 {
     let name = one.name;
     let fault = ClassFault::BadOverride(name.at);
     if !is_told(first, fault) {
-        return first;
-    }
-    if inheritance.patterns.stand_for(one) {
         return first;
     }
     if overrides_badly(inheritance.family, inheritance.headings, number, one) {
@@ -113,8 +105,7 @@ fn note_clashes(
     own: &[Heading],
     first: Option<ClassFault>,
 ) -> Option<ClassFault>
-    requires family { IsFamily inheritance.now.family.now }
-    requires fitting { AreFitting (pattern_of inheritance.now.patterns.now) (class_headings (rows_data inheritance.now.headings.now)) }
+    requires { IsFamily inheritance.now.family.now }
     ensures { result ≡ noted first (override_faults (class_headings (rows_data inheritance.now.headings.now)) (ancestors_of (tree_of inheritance.now.family.now) number) (map heading_data own.now)) }
 {
     let mut found = first;
@@ -124,41 +115,72 @@ fn note_clashes(
     found
 }
 
-/// The same of all methods of a class.
-fn note_clashes_of(
+/// How many methods of a class, from the first on, override well, where so many of each class do.
+fn well_at(well: &[usize], number: usize) -> usize
+    ensures { result ≡ well_at well.now number }
+{
+    match well.get(number) {
+        Some(count) => *count,
+        None => 0,
+    }
+}
+
+/// The methods behind so many.
+fn behind<'o, 'p, 'a>(own: &'o [Heading<'p, 'a>], well: usize) -> &'o [Heading<'p, 'a>]
+    requires { well ≤ length own.now }
+    ensures { result.now ≡ drop well own.now }
+{
+    &own[well..]
+}
+
+/// The same of all of these methods but so many, from the first on.
+fn note_clashes_from(
+    inheritance: &Inheritance,
+    number: usize,
+    own: &[Heading],
+    well: usize,
+    first: Option<ClassFault>,
+) -> Option<ClassFault>
+    requires { IsFamily inheritance.now.family.now }
+    ensures { result ≡ noted first (override_faults (class_headings (rows_data inheritance.now.headings.now)) (ancestors_of (tree_of inheritance.now.family.now) number) (drop well (map heading_data own.now))) }
+{
+    if well < own.len() {
+        note_clashes(inheritance, number, behind(own, well), first)
+    } else {
+        first
+    }
+}
+
+/// The same of the methods of a class behind those that are known to override well.
+fn note_clashes_after(
     inheritance: &Inheritance,
     number: usize,
     first: Option<ClassFault>,
 ) -> Option<ClassFault>
-    requires family { IsFamily inheritance.now.family.now }
-    requires fitting { AreFitting (pattern_of inheritance.now.patterns.now) (class_headings (rows_data inheritance.now.headings.now)) }
+    requires { IsFamily inheritance.now.family.now }
     ensures { let methods = class_headings (rows_data inheritance.now.headings.now) in
-        result ≡ noted first (override_faults methods (ancestors_of (tree_of inheritance.now.family.now) number) (methods number)) }
+        result ≡ noted first (override_faults methods (ancestors_of (tree_of inheritance.now.family.now) number) (drop (well_at inheritance.now.well.now number) (methods number))) }
 {
+    let well = well_at(inheritance.well, number);
     match inheritance.headings.get(number) {
-        Some(own) => note_clashes(inheritance, number, own.as_slice(), first),
+        Some(own) => note_clashes_from(inheritance, number, own.as_slice(), well, first),
         None => first,
     }
 }
 
-/// The faults of methods that override one that they may not override. Where all are alike with the nearest, there are none, nor
-/// where the class is on or below a circle.
+/// The faults of methods that override one that they may not override. Where the class is on or below a circle, there are none.
 pub(crate) fn note_bad_overrides(
     inheritance: &Inheritance,
     number: usize,
     first: Option<ClassFault>,
 ) -> Option<ClassFault>
     requires family { IsFamily inheritance.now.family.now }
-    requires well { inheritance.now.all_override_well ≡ true → AllOverrideWell (tree_of inheritance.now.family.now) (class_headings (rows_data inheritance.now.headings.now)) (pattern_of inheritance.now.patterns.now) }
-    requires fitting { AreFitting (pattern_of inheritance.now.patterns.now) (class_headings (rows_data inheritance.now.headings.now)) }
+    requires well { AreWell (tree_of inheritance.now.family.now) (class_headings (rows_data inheritance.now.headings.now)) inheritance.now.well.now }
     ensures { let methods = class_headings (rows_data inheritance.now.headings.now) in
         result ≡ noted first (override_faults methods (ancestor_classes (tree_of inheritance.now.family.now) number) (methods number)) }
 {
-    if inheritance.all_override_well {
-        return first;
-    }
     if inheritance.family.is_on_circle(number) {
         return first;
     }
-    note_clashes_of(inheritance, number, first)
+    note_clashes_after(inheritance, number, first)
 }

@@ -24,7 +24,6 @@ mod numbered_fields;
 mod numbers;
 mod overriding;
 mod own;
-mod patterns;
 mod starts;
 
 pub use check::first_fault;
