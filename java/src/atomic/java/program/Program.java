@@ -168,6 +168,12 @@ public final class Program {
             && home.getRecordComponents().stream().anyMatch(each -> each.getSimpleName().equals(symbol.getSimpleName()));
     }
 
+    /** Whether objects of a class may be copied field by field, which looks at each field without a word of it. */
+    public boolean isCopied(JavaClass each) {
+        return attribution.types().isSubtype(attribution.types().erasure(each.symbol().asType()),
+            attribution.elements().getTypeElement("java.lang.Cloneable").asType());
+    }
+
     /** All methods of a name. */
     public List<JavaMethod> named(CharSequence name) {
         return byName.getOrDefault(name.toString(), List.of());

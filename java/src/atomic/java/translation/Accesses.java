@@ -82,6 +82,16 @@ final class Accesses {
         }
         Fields.Home home = services.fields().home(source);
         Value holder = holder(source, home, receiver);
+        look(field, home, holder, settled, at);
+        if (owned) {
+            Path own = settled && home.field().type() != null ? behind(holder, home.field()).path() : null;
+            return owned(field, receiver, own, at);
+        }
+        return settled ? behind(holder, home.field()) : new Value.Opaque(home.field().type());
+    }
+
+    /** The look at a field itself, where it is a step. */
+    private void look(VariableElement field, Fields.Home home, Value holder, boolean settled, Tree at) {
         if (body.stable().contains(field) && isOwn(at)) {
             services.methods().repeats(services.attribution().name(at), services.attribution().name(at));
         } else if (!settled && !(looksAgain(field, at) && services.program().sure()) && !isStable(field, at)
@@ -90,18 +100,18 @@ final class Accesses {
             new Versions(services).note(field, false, at);
             new Lazies(services).note(field, false, at);
         }
-        if (owned) {
-            Fields.Home contents = services.fields().contents(field);
-            Value inside = holder(field, contents, receiver);
-            Path own = settled && home.field().type() != null ? behind(holder, home.field()).path() : null;
-            services.exits().write(field, at, body);
-            if (inside instanceof Value.Fresh) {
-                services.functions().compare(services.fields().comparing(contents.field()), body, at);
-                return new Value.Fresh(null);
-            }
-            return new Value.Owned(inside, contents.field(), own);
+    }
+
+    /** What a field holds whose contents are its own. */
+    private Value owned(VariableElement field, Value receiver, Path own, Tree at) {
+        Fields.Home contents = services.fields().contents(field);
+        Value inside = holder(field, contents, receiver);
+        services.exits().write(field, at, body);
+        if (inside instanceof Value.Fresh) {
+            services.functions().compare(services.fields().comparing(contents.field()), body, at);
+            return new Value.Fresh(null);
         }
-        return settled ? behind(holder, home.field()) : new Value.Opaque(home.field().type());
+        return new Value.Owned(inside, contents.field(), own);
     }
 
     /** Whether this is a second look at a flag that never goes back, which may tell nothing new; that is told. */

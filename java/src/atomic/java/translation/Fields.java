@@ -158,6 +158,12 @@ public final class Fields {
         if (holder == Holder.CONTAINER) {
             field.standForNodes();
         }
+        describe(field, java, owner, wish);
+        return new Home(field, holder);
+    }
+
+    /** Says of a field of the skeleton what its Java field is. */
+    private void describe(Field field, VariableElement java, JavaClass owner, Wish wish) {
         Tree tree = uses.declaration(java);
         field.place(tree == null ? null : program.attribution().name(tree));
         boolean contents = !wish.name().contentEquals(java.getSimpleName());
@@ -171,7 +177,7 @@ public final class Fields {
             field.holdsOwn();
         }
         if (java.getModifiers().contains(Modifier.PRIVATE) && owner.methods().stream().noneMatch(JavaMethod::isNative)
-                && !isCopied(owner)) {
+                && !program.isCopied(owner)) {
             field.hide();
         }
         boolean isVolatile = java.getModifiers().contains(Modifier.VOLATILE);
@@ -182,13 +188,6 @@ public final class Fields {
                 : isWide(java.asType()) && !isVolatile && !program.sure()) {
             field.widen();
         }
-        return new Home(field, holder);
-    }
-
-    /** Whether objects of a class may be copied field by field, which looks at each field without a word of it. */
-    private boolean isCopied(JavaClass owner) {
-        return program.attribution().types().isSubtype(program.attribution().types().erasure(owner.symbol().asType()),
-            program.attribution().elements().getTypeElement("java.lang.Cloneable").asType());
     }
 
     /** Numbers of 64 bits are written in two halves. */
