@@ -47,11 +47,11 @@ public class SettlementLedger {
         this.executor = executor;
     }
 
-    public long post(String account, long cents) { // refused: alarm: the expert sees no interruption
+    public long post(String account, long cents) { // accepted
         return book.updateAndGet(b -> b.plus(account, cents)).balanceOf(account);
     }
 
-    public boolean withdraw(String account, long cents) { // refused: alarm: the expert sees no interruption
+    public boolean withdraw(String account, long cents) { // accepted
         while (true) {
             Book seen = book.get();
             if (seen.balanceOf(account) < cents) return false;
@@ -65,7 +65,7 @@ public class SettlementLedger {
         return true;
     }
 
-    public boolean move(String from, String to, long cents) { // refused: alarm: the expert sees no interruption
+    public boolean move(String from, String to, long cents) { // accepted
         Book before = book.getAndUpdate(b ->
                 b.balanceOf(from) < cents ? b : b.plus(from, -cents).plus(to, cents));
         return before.balanceOf(from) >= cents;

@@ -52,7 +52,7 @@ public class EscrowBook {
     private final AtomicReference<Book> book = new AtomicReference<>(new Book(Map.of(), Map.of(), 0));
     private volatile BigDecimal fees = BigDecimal.ZERO;
 
-    public void deposit(String who, BigDecimal amount) { // refused: alarm: one updateAndGet of an immutable book
+    public void deposit(String who, BigDecimal amount) { // accepted
         book.updateAndGet(b -> b.withFunds(who, amount));
     }
 

@@ -30,8 +30,7 @@ final class Forgetting {
     }
 
     private static Stream<Path> paths(Value value) {
-        Stream<Path> inner = value instanceof Value.Through through ? paths(through.receiver())
-            : value instanceof Value.Node node ? paths(node.container())
+        Stream<Path> inner = value instanceof Value.Node node ? paths(node.container())
             : value instanceof Value.Owned owned ? paths(owned.receiver()) : Stream.of();
         return Stream.concat(inner, value == null ? Stream.of() : Stream.ofNullable(value.path()));
     }
@@ -59,9 +58,7 @@ final class Forgetting {
     }
 
     private Value known(Value value) {
-        if (value instanceof Value.Through through) {
-            return new Value.Through(known(through.receiver()), through.field());
-        } else if (value instanceof Value.Node node) {
+        if (value instanceof Value.Node node) {
             return new Value.Node(known(node.container()));
         } else if (value instanceof Value.Owned owned) {
             return new Value.Owned(known(owned.receiver()), owned.contents(), known(owned.own()));

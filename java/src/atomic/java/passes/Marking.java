@@ -41,9 +41,6 @@ public final class Marking {
     private static void value(Value value) {
         if (value.path() != null) {
             path(value.path());
-        } else if (value instanceof Value.Through through) {
-            value(through.receiver());
-            through.field().use();
         }
     }
 

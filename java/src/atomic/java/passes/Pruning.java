@@ -96,8 +96,6 @@ public final class Pruning {
             named.add(one.path().root().name());
         } else if (value instanceof Value.Loose loose) {
             named.add(loose.variable().name());
-        } else if (value instanceof Value.Through through) {
-            names(through.receiver(), named);
         }
     }
 

@@ -63,9 +63,6 @@ public final class Frame {
         add(value.type());
         if (value.path() != null) {
             add(value.path());
-        } else if (value instanceof Value.Through through) {
-            add(through.receiver());
-            add(through.field());
         } else if (value instanceof Value.Node node) {
             add(node.container());
         }

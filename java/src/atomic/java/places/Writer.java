@@ -240,9 +240,6 @@ public final class Writer {
             text.put(path(named.path()));
         } else if (value instanceof Value.Loose loose) {
             text.put(name(loose.variable().name()));
-        } else if (value instanceof Value.Through through) {
-            object(through.receiver());
-            text.put(".").put(name(through.field().name()));
         } else if (value instanceof Value.Node node) {
             object(node.container());
         } else if (value.type() == library) {

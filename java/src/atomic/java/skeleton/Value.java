@@ -15,9 +15,6 @@ public sealed interface Value {
     /** An object of a class without a name: what a call or {@code new} gives. Without a class nothing is known. */
     record Opaque(Shape type) implements Value { }
 
-    /** What a field that isn't final holds. */
-    record Through(Value receiver, Field field) implements Value { }
-
     /** An object that only the receiver's field leads to: its contents are that field's. It may have a path itself. */
     record Owned(Value receiver, Field contents, Path own) implements Value { }
 
@@ -38,8 +35,6 @@ public sealed interface Value {
             return loose.variable().type();
         } else if (this instanceof Opaque opaque) {
             return opaque.type();
-        } else if (this instanceof Through through) {
-            return through.field().type();
         } else if (this instanceof Node node) {
             return node.container().type();
         } else if (this instanceof Fresh fresh) {

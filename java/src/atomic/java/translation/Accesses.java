@@ -82,6 +82,16 @@ final class Accesses {
         }
         Fields.Home home = services.fields().home(source);
         Value holder = holder(source, home, receiver);
+        look(field, home, holder, settled, at);
+        if (owned) {
+            Path own = settled && home.field().type() != null ? behind(holder, home.field()).path() : null;
+            return owned(field, receiver, own, at);
+        }
+        return settled ? behind(holder, home.field()) : new Value.Opaque(home.field().type());
+    }
+
+    /** The look at a field itself, where it is a step. */
+    private void look(VariableElement field, Fields.Home home, Value holder, boolean settled, Tree at) {
         if (body.stable().contains(field) && isOwn(at)) {
             services.methods().repeats(services.attribution().name(at), services.attribution().name(at));
         } else if (!settled && !(looksAgain(field, at) && services.program().sure()) && !isStable(field, at)
@@ -90,17 +100,12 @@ final class Accesses {
             new Versions(services).note(field, false, at);
             new Lazies(services).note(field, false, at);
         }
-        if (owned) {
-            return contents(field, receiver, home.field(), settled ? holder : null, at);
-        }
-        return settled ? behind(holder, home.field()) : new Value.Opaque(home.field().type());
     }
 
-    /** What a field holds whose contents are a part of it; {@code holder} has the field, where that names one object. */
-    private Value contents(VariableElement field, Value receiver, Field itself, Value holder, Tree at) {
+    /** What a field holds whose contents are its own. */
+    private Value owned(VariableElement field, Value receiver, Path own, Tree at) {
         Fields.Home contents = services.fields().contents(field);
         Value inside = holder(field, contents, receiver);
-        Path own = holder != null && itself.type() != null ? behind(holder, itself).path() : null;
         services.exits().write(field, at, body);
         if (inside instanceof Value.Fresh) {
             services.functions().compare(services.fields().comparing(contents.field()), body, at);

@@ -249,7 +249,8 @@ record Attempt(MethodInvocationTree look, MethodInvocationTree change, VariableE
 
         @Override
         public Void visitMethodInvocation(MethodInvocationTree tree, Void nothing) {
-            holds &= tree == look || tree == change || services.computing().only(tree);
+            VariableElement own = services.computing().own(tree);
+            holds &= tree == look || tree == change || services.computing().only(tree) && (own == null || known.contains(own));
             return super.visitMethodInvocation(tree, nothing);
         }
 

@@ -1,6 +1,8 @@
 package atomic.java.translation;
 
+import atomic.java.library.Choice;
 import atomic.java.library.Library;
+import atomic.java.ownership.Ownership;
 import atomic.java.ownership.Uses;
 import atomic.java.program.JavaClass;
 import atomic.java.program.JavaMethod;
@@ -40,7 +42,7 @@ import javax.lang.model.type.TypeMirror;
  */
 final class Computing {
     private static final Set<Tree.Kind> REFUSED = EnumSet.of(Tree.Kind.SYNCHRONIZED, Tree.Kind.TRY,
-        Tree.Kind.LAMBDA_EXPRESSION, Tree.Kind.MEMBER_REFERENCE, Tree.Kind.CLASS);
+        Tree.Kind.LAMBDA_EXPRESSION, Tree.Kind.CLASS);
     private static final Set<String> BASES = Set.of("java.lang.Object", "java.lang.Record");
 
     private final Services services;
@@ -133,7 +135,23 @@ final class Computing {
             return only(method);
         }
         boolean base = symbol.getKind() == ElementKind.CONSTRUCTOR && BASES.contains(symbol.getEnclosingElement().toString());
-        return base || Retries.onlyComputes(services.ownership().escape().choose(call.getMethodSelect(), symbol));
+        Choice choice = services.ownership().escape().choose(call.getMethodSelect(), symbol);
+        return base || Retries.onlyComputes(choice) || own(call) != null
+            || choice.kind() == Choice.Kind.READS && call.getMethodSelect() instanceof MemberSelectTree select
+                && services.immutable(select.getExpression()) != null;
+    }
+
+    /** The local whose new collection a call looks at or changes, where nobody else knows that one yet; else null. */
+    VariableElement own(MethodInvocationTree call) {
+        if (!(services.attribution().element(call) instanceof ExecutableElement symbol) || services.program().method(symbol) != null
+                || !(call.getMethodSelect() instanceof MemberSelectTree select)
+                || !(services.attribution().element(Uses.bare(select.getExpression())) instanceof VariableElement local)) {
+            return null;
+        }
+        Choice.Kind kind = services.ownership().escape().choose(select, symbol).kind();
+        boolean contents = kind == Choice.Kind.READS || kind == Choice.Kind.WRITES;
+        return contents && local.getKind() == ElementKind.LOCAL_VARIABLE && Ownership.isNew(services.ownership().made(local))
+            && services.attribution().start(call) < services.ownership().escapes(local) ? local : null;
     }
 
     /** Whether the making of an object does nothing but to fill its own fields. */
@@ -207,6 +225,12 @@ final class Computing {
             holds &= own && symbol instanceof VariableElement variable && (!variable.getKind().isField()
                 || method != null && method.isConstructor() && variable.getEnclosingElement() == method.owner().symbol()
                 && !variable.getModifiers().contains(Modifier.STATIC));
+        }
+
+        @Override
+        public Void visitMemberReference(MemberReferenceTree tree, Void nothing) {
+            holds &= only(tree);
+            return null;
         }
 
         @Override

@@ -110,9 +110,7 @@ final class Leavings {
     }
 
     private static Stream<Path> paths(Value value) {
-        if (value instanceof Value.Through through) {
-            return paths(through.receiver());
-        } else if (value instanceof Value.Owned owned) {
+        if (value instanceof Value.Owned owned) {
             return Stream.concat(Stream.ofNullable(owned.own()), paths(owned.receiver()));
         } else if (value instanceof Value.Node node) {
             return paths(node.container());
