@@ -36,6 +36,18 @@ public class LiveContents {
         return Optional.ofNullable(lanes.get(lane));
     }
 
+    public synchronized Map<String, Deque<String>> shallow() { // refused: the copy has the same lanes
+        return new HashMap<>(lanes);
+    }
+
+    public synchronized List<Deque<String>> listed() { // refused: so has the list
+        return lanes.values().stream().toList();
+    }
+
+    public synchronized List<Deque<String>> deep() {
+        return lanes.values().stream().<Deque<String>>map(ArrayDeque::new).toList();
+    }
+
     public synchronized void set(String page, int at) {
         pages.get(page)[at] = 1;
     }

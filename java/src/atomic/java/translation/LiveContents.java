@@ -9,10 +9,14 @@ import atomic.java.skeleton.Part;
 import atomic.java.skeleton.Value;
 import com.sun.source.tree.ConditionalExpressionTree;
 import com.sun.source.tree.ExpressionTree;
+import com.sun.source.tree.LambdaExpressionTree;
+import com.sun.source.tree.MemberReferenceTree;
 import com.sun.source.tree.MemberSelectTree;
 import com.sun.source.tree.MethodInvocationTree;
 import com.sun.source.tree.MethodTree;
 import com.sun.source.tree.ReturnTree;
+import com.sun.source.tree.Tree;
+import com.sun.source.util.TreeScanner;
 import java.util.HashMap;
 import java.util.HashSet;
 import java.util.LinkedHashMap;
@@ -21,6 +25,7 @@ import java.util.Map;
 import java.util.Set;
 import javax.lang.model.element.ExecutableElement;
 import javax.lang.model.element.VariableElement;
+import javax.lang.model.type.DeclaredType;
 import javax.lang.model.type.TypeMirror;
 
 /**
@@ -48,7 +53,9 @@ final class LiveContents {
 
     /** Notes what a method gives back. */
     void give(ReturnTree tree, Body body) {
-        ExpressionTree shown = tree.getExpression() == null ? null : shown(tree.getExpression(), 0);
+        ExpressionTree found = tree.getExpression() == null ? null : shown(tree.getExpression(), 0);
+        ExpressionTree shown = found == null && tree.getExpression() != null && isShallow(tree.getExpression())
+            ? tree.getExpression() : found;
         JavaMethod method = services.program().around(tree) instanceof MethodTree around
             ? services.program().method(services.attribution().element(around)) : null;
         if (shown != null && method != null && services.methods().promises(method)) {
@@ -81,6 +88,30 @@ final class LiveContents {
         return isFound(call) ? call : null;
     }
 
+    /** Whether an expression copies a field's collection of collections, and none of these: no function makes others of them. */
+    private boolean isShallow(ExpressionTree tree) {
+        boolean[] copies = new boolean[2];
+        if (inner(services.attribution().type(tree)) != null) {
+            new TreeScanner<Void, Void>() {
+                @Override
+                public Void scan(Tree each, Void nothing) {
+                    copies[0] |= each instanceof ExpressionTree && services.attribution().element(each) instanceof VariableElement
+                        field && field.getKind().isField() && services.program().find(field.getEnclosingElement()) != null
+                        && inner(field.asType()) != null;
+                    copies[1] |= each instanceof LambdaExpressionTree || each instanceof MemberReferenceTree;
+                    return super.scan(each, nothing);
+                }
+            }.scan(tree, null);
+        }
+        return copies[0] && !copies[1];
+    }
+
+    /** The collections or arrays that a type says are within its objects; else null. */
+    private TypeMirror inner(TypeMirror type) {
+        return type instanceof DeclaredType declared ? declared.getTypeArguments().stream().map(TypeMirror.class::cast)
+            .filter(services.program().library()::hasContents).findFirst().orElse(null) : null;
+    }
+
     /** Whether a call on a field's collection gives a collection or an array that isn't a new one and may change. */
     private boolean isFound(MethodInvocationTree call) {
         TypeMirror type = services.attribution().type(call);
@@ -95,7 +126,9 @@ final class LiveContents {
     /** Where all methods are written: what nobody changes may be given to anybody. */
     void finish() {
         given.forEach((shown, way) -> {
-            if (changed.getOrDefault(file(shown), Set.of()).stream().anyMatch(each -> mayBe(each, services.attribution().type(shown)))) {
+            TypeMirror whole = services.attribution().type(shown);
+            TypeMirror type = isShallow(shown) ? inner(whole) : whole;
+            if (changed.getOrDefault(file(shown), Set.of()).stream().anyMatch(each -> mayBe(each, type))) {
                 services.fill(way, true);
                 services.hint(shown, "object of others: what is found here gets out, so that others may touch it without any"
                     + " lock");
