@@ -1,5 +1,6 @@
 -- The lines of one method more.
-use Rattle.std.proofs.Common.{length, map, string_bytes, ◌∙◌}
+use Rattle.std.proofs.Common.{◌≡◌, arith, length, map, string_bytes, sym, ◌∙◌}
+use Rattle.std.proofs.lemmas.Bool.{eqb-true}
 use Rattle.classes.specs.Views.{table_data}
 use Rattle.core_program.specs.Views.{program_of}
 use Rattle.explain_commands.specs.Explained.{page_of}
@@ -37,6 +38,18 @@ loop-x-preserved g c =
           c.args.all.now c.loop-x.x-index c.x-item.result (string_bytes c.loop-x.text) (string_bytes c.add_block.new.text) added.0 c.loop-x-test.true c.x-item.is added.1 added.2 c.loop-x.invariant.texts;
       finals = c.add_block.ensures.kept ∙ c.loop-x.invariant.finals;
     }
+
+-- none are told
+pub returns-then-is_empty : goal.returns-then-is_empty
+returns-then-is_empty g c =
+    let told = c.args.told.now in
+    let walk = c.args.walk.now in
+    let page = page_of told.file.now told.index.now (table_data told.source.now.table) (map (λ m. member_of m.now) told.methods.now.items) in
+    let none : length c.args.all.now ≡ 0 = eqb-true (length c.args.all.now) 0 (sym c.is_empty.ensures ∙ c.if-is_empty.true) in
+    all_so_far (program_of walk.program.now) (rel_of walk.sets.now) (g.A.Assigned.assigned walk.assigned.now) page (row_at c.args.over.now)
+    c.args.all.now 0 (string_bytes c.new-text.result) (omega (arith, none))
+    (none_so_far (program_of walk.program.now) (rel_of walk.sets.now) (g.A.Assigned.assigned walk.assigned.now) page (row_at c.args.over.now)
+    c.args.all.now (string_bytes c.new-text.result) c.new-text.ensures.bytes)
 
 pub returns : goal.returns
 returns g c =
