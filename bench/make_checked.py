@@ -27,7 +27,7 @@ from __future__ import annotations
 import itertools
 import string
 import sys
-from collections.abc import Callable
+from collections.abc import Callable, Iterator
 from dataclasses import dataclass
 
 from command_line import count_of, words_of
@@ -234,34 +234,27 @@ TAKEN = frozenset(
 )
 
 
-def floors() -> str:
-    """The methods that bring a greater effect stand behind the chain, so it comes there a round later. Many fields
-    make long paths."""
-    words = (
-        "".join(letters) for size in range(1, 5) for letters in itertools.product(string.ascii_letters, repeat=size)
-    )
-    names = (word for word in words if word not in TAKEN)
+def short_names() -> Iterator[str]:
+    """Names that no other method or class has, the shortest first."""
+    sizes = (itertools.product(string.ascii_letters, repeat=size) for size in itertools.count(1))
+    words = map("".join, itertools.chain.from_iterable(sizes))
+    return (word for word in words if word not in TAKEN)
+
+
+def floors(count: int, promise: str = "atomic ") -> str:
+    """A chain of so many methods. Those that bring a greater effect stand behind it, so it comes there a round later.
+    Many fields make long paths."""
     fields = "".join(f"class F{k}{{{''.join(f'int {a};' for a in string.ascii_letters[:32])}}}" for k in range(32))
     finals, given = "".join(f"final D {p};" for p in LOCKS), ",".join(f"D {p}" for p in LOCKS)
     sets_of = "".join(f"this.{p}={p};" for p in LOCKS)
     locks = f"class D{{int v write_guarded_by this;}}class N{{{finals}N({given}){{{sets_of}}}}}"
-    one, two, three, four = (next(names) for _ in range(4))
+    one, two, three, four, *names = itertools.islice(short_names(), count + 4)
+    chain = "".join(f"void {name}(){{this.{called}();}}" for name, called in zip(names, [one, *names]))
     reads = "else ".join(f"if(x==1){{x=this.n.{p}.v;}}" for p in LOCKS)
     later = f"void {one}(){{int x=0;this.{two}();}}void {two}(){{this.u=1;this.{three}();}}"
     later += f"void {three}(){{this.u=1;this.u=2;this.{four}();}}void {four}(){{int x=0;{reads}}}"
-    head = f"{fields}{locks}class M{{final N n;int u;M(N n){{this.n=n;}}"
-
-    def end(called: str) -> str:
-        return f"{later}{'atomic ' * WANTED.refused}void last(){{this.{called}();}}}}\n{MAIN}"
-
-    text, size, called = [head], len(head), one
-    for name in names:
-        piece = f"void {name}(){{this.{called}();}}"
-        if size + len(piece) + len(end(name)) > WANTED.limit:
-            return "".join(text) + end(called)
-        text.append(piece)
-        size, called = size + len(piece), name
-    raise AssertionError("there are fewer names than fit")
+    last = f"{promise}void last(){{this.{names[-1]}();}}"
+    return f"{fields}{locks}class M{{final N n;int u;M(N n){{this.n=n;}}{chain}{later}{last}}}\n{MAIN}"
 
 
 KINDS: dict[str, Callable[[], str]] = {
@@ -281,7 +274,7 @@ KINDS: dict[str, Callable[[], str]] = {
     "sets": sets,
     "sets_calls": lambda: sets_calls(WANTED.of(500)),
     "sets_rise": lambda: most(sets_rise),
-    "floors": floors,
+    "floors": lambda: most(lambda count: floors(count, "atomic " * WANTED.refused)),
 }
 # those whose refused method isn't the last one
 OWN = ("chain", "chain_back", "cycle", "floors")

@@ -90,7 +90,7 @@ def judging(program: str, maker: str, judge: str, source: str, seconds: int) -> 
 
 def case(program: str, command: str, folder: str, text: str, seconds: int) -> Optional[Case]:
     """A command with this source and what belongs to it."""
-    shown = LAST * ("blame" in command and "class Last" not in text)
+    shown = LAST * ("blame" in command and "void last(" not in text)
     source = put(folder, "source", (text + shown).encode())
     if command == "levels":
         levels = levels_of(text).encode()

@@ -31,6 +31,7 @@ own_calls   calls, where each class has a method with a name of its own
 unknown     calls, and then the call of a method that no class has (refused)
 sets_calls  methods that call each other, called at each part of eight locks
 sets_rise   methods that are called under more and more levels
+floors      a chain of methods whose effect rises three times at each part of eight locks
 leaf_locks  classes that override one method and lock a field of their own each; it is called many times under a lock
 deep        classes in a line, where a loop calls the first one's method on an object of the last
 crowd       the same for objects of the last 60 classes and eight methods, called at eight places
@@ -319,6 +320,7 @@ FAMILIES: dict[str, Family] = {
     "unknown": unknown,
     "sets_calls": make_checked.sets_calls,
     "sets_rise": make_checked.sets_rise,
+    "floors": make_checked.floors,
     "leaf_locks": leaf_locks,
     **RUN_FAMILIES,
 }
