@@ -5,7 +5,7 @@ use Rattle.core_program.specs.Dispatch.{Overrides}
 use Rattle.core_program.specs.Views.{program_of, method_of}
 use Rattle.rules.specs.Search.{rows_of}
 use Rattle.rules.proofs.OverridingLemmas.{have_none, have_more, rows_exact}
-use Rattle.rules.proofs.overriding.overriders.Goals as goal
+use Rattle.rules.proofs.overriding.overriding_rows.Goals as goal
 
 pub loop-place-init : goal.loop-place-init
 loop-place-init c = have_none (λ over m. Overrides (program_of c.args.program.now) over m) c.new-rows.result.items c.new-rows.ensures.items
