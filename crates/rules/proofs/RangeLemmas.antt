@@ -1,10 +1,11 @@
 -- Rows that are ranges of one list: what a walk lays leads to the method of the range, and no method is missed where each lies in the range of
 -- the next one that it overrides.
-use Rattle.std.proofs.Common.{◌≡◌, ◌≢◌, ◌↔◌, ◌⊎◌, inl, inr, ℕ, zero, suc, ◌+◌, ◌-◌, ◌<◌, ◌≤◌, ◌==◌, Bool, true, false, List, [], ◌∷◌, ◌++◌, length, map, drop, take, replicate, get_or, Option, Some, None, refl, sym, ap, subst, ◌∙◌, arith}
+use Rattle.std.proofs.Common.{◌≡◌, ◌≢◌, ◌↔◌, ◌⊎◌, inl, inr, ℕ, zero, suc, ◌+◌, ◌-◌, ◌<◌, ◌≤◌, ◌==◌, Bool, true, false, List, [], ◌∷◌, ◌++◌, length, map, drop, take, replicate, get_or, Option, Some, None, refl, sym, ap, subst, ◌∙◌, arith, append-nil}
 use Rattle.std.specs.Prelude.{Contains, Vec, option_and_then, option_map, slice_get}
 use Rattle.std.specs.declared.alloc.Global.{Global}
 use Rattle.std.specs.List.{AllByRecursion}
 use Rattle.std.proofs.Math.Seq.{drop-append_seam}
+use Rattle.std.proofs.Math.ListN.{drop_of_length-le}
 use Rattle.std.proofs.lemmas.Bool.{eqb-true, eqb-false}
 use Rattle.std.proofs.lemmas.List.{take-append-le, drop-append-le, length-drop, length-append, map-append, take_all}
 use Rattle.std.proofs.lemmas.Option.{none-some, same_Some, slice_get-map, slice_get_within}
@@ -103,6 +104,11 @@ laid_none nexts begun_count range_count order begun ranges none empty all_begun 
   so_far = λ m first k over is low at. absurd (begun_none begun_count m first (ap (λ xs. above_in xs m) (sym all_begun) ∙ is));
   below = λ m first is. absurd (begun_none begun_count m first (ap (λ xs. above_in xs m) (sym all_begun) ∙ is));
 }
+
+-- a slice of the same length that is written back over all of a list
+pub written : (ranges old : List Range) (len : ℕ) → len ≡ length old → length ranges ≡ length old → take len (ranges ++ drop (length ranges) old) ≡ ranges
+written ranges old len all same =
+    ap (λ z. take len (ranges ++ z)) (drop_of_length-le old (omega (arith, same))) ∙ ap (take len) (append-nil ranges) ∙ take_all len ranges (omega (arith, all, same))
 
 -- one method more is laid, and its range begins behind it
 pub laid_down : (nexts : List (Option ℕ)) (node first_of_node : ℕ) (order more : List ℕ) (begun later : List (Option ℕ)) (ranges : List Range) (first : Option ℕ) (method : ℕ)
@@ -273,7 +279,7 @@ pub row_laid : (rows all : List (List ℕ)) (row order more : List ℕ) (ranges 
     → (map (in_range more) grown ≡ all) × AllIn (length more) grown
 row_laid rows all row order more ranges grown r so_far within begins counted added one_more next = (
   ap (λ z. map (in_range z) grown) added ∙ ap (map (in_range (order ++ row))) one_more ∙ map-append (in_range (order ++ row)) ranges (r ∷ [])
-  ∙ ap (λ z. z ++ in_range (order ++ row) r ∷ []) (all_longer order row ranges within ∙ so_far) ∙ ap (λ z. rows ++ z ∷ []) here ∙ sym next,
+      ∙ ap (λ z. z ++ in_range (order ++ row) r ∷ []) (all_longer order row ranges within ∙ so_far) ∙ ap (λ z. rows ++ z ∷ []) here ∙ sym next,
   subst (AllIn (length more)) (sym one_more) (all_in ranges (λ q low. omega (arith, low, long)) within),
 )
   where
@@ -332,3 +338,34 @@ nexts_all p place nexts past have m = by_cell (slice_get nexts m) refl
             let count = have.count in
             let cell = get_below nexts m (omega (arith, low, past, count)) in
             absurd (none-some cell.0 (sym gone ∙ cell.1))
+
+-- ---- the test
+
+pub none_tested : (nexts : List (Option ℕ)) (order : List ℕ) (ranges : List Range) (over m : ℕ) → above_in nexts over ≡ None → above_in nexts over ≡ Some m → LiesIn order ranges over m
+none_tested nexts order ranges over m none is = absurd (none-some m (sym none ∙ is))
+
+pub one_tested : (nexts : List (Option ℕ)) (order : List ℕ) (ranges : List Range) (over next m : ℕ) → above_in nexts over ≡ Some next → Lies order (range_at ranges over) (range_at ranges next) over
+    → above_in nexts over ≡ Some m → LiesIn order ranges over m
+one_tested nexts order ranges over next m next_is lies is = subst (λ z. LiesIn order ranges over z) (same_Some next m (sym next_is ∙ is)) lies
+
+-- what a cell has is what is above
+pub above_is : (nexts : List (Option ℕ)) (over : ℕ) (cell : Option ℕ) → slice_get nexts over ≡ Some cell → above_in nexts over ≡ cell
+above_is nexts over cell is = sym (above_at nexts over cell is)
+
+-- those before a place, and the one there
+pub more_tested : (nexts : List (Option ℕ)) (order : List ℕ) (ranges : List Range) (place over m : ℕ) → ((m : ℕ) → above_in nexts place ≡ Some m → LiesIn order ranges place m)
+    → ((over m : ℕ) → over < place → above_in nexts over ≡ Some m → LiesIn order ranges over m) → over < place + 1 → above_in nexts over ≡ Some m → LiesIn order ranges over m
+more_tested nexts order ranges place over m here before low is = by_test (over == place) refl
+  where
+    by_test : (b : Bool) → (over == place) ≡ b → LiesIn order ranges over m
+    by_test true same =
+        let e = eqb-true over place same in
+        subst (λ z. LiesIn order ranges z m) (sym e) (here m (subst (λ z. above_in nexts z ≡ Some m) e is))
+    by_test false other = let apart = eqb-false over place other in before over m (omega (arith, low, apart)) is
+
+pub all_tested : (nexts : List (Option ℕ)) (order : List ℕ) (ranges : List Range) (place : ℕ) → length nexts ≤ place
+    → ((over m : ℕ) → over < place → above_in nexts over ≡ Some m → LiesIn order ranges over m) → LieBelowNext nexts order ranges
+all_tested nexts order ranges place past before over m is =
+    let cell = then_parts (λ (up : Option ℕ). up) (slice_get nexts over) m is in
+    let low = slice_get_within nexts over cell.0 cell.1 in
+    before over m (omega (arith, low, past)) is

@@ -14,7 +14,8 @@ use Rattle.core_program.specs.Pairs.{KeptClass, own_named, part_above, is_own_in
 use Rattle.core_program.specs.Views.{kept_classes, program_of}
 use Rattle.core_program.proofs.Climbing.{own_none, own_nowhere, nearest_none}
 use Rattle.core_program.proofs.NamedParts.{own_has, nearest_named_is}
-use Rattle.core_program.proofs.OverridesLemmas.{is_over, next_overrides, overrides_one, class_is}
+use Rattle.core_program.proofs.OverridesLemmas.{is_over, next_overrides, overrides_one}
+use Rattle.rules.proofs.AboveLemmas.{class_is}
 
 -- ---- as many classes as there are are enough to look at
 

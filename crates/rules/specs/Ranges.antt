@@ -11,9 +11,13 @@ use Rattle.rules.specs.declared.ranges.Range.{Range}
 abbrev pub in_range : List ℕ → Range → List ℕ
 in_range order range = take range.count (drop range.first order)
 
+-- a range in which nothing stands
+abbrev pub empty_range : Range
+empty_range = record { first = 0; count = 0 }
+
 -- a range; an empty one where there is none
 abbrev pub range_or_empty : Option Range → Range
-range_or_empty None = record { first = 0; count = 0 }
+range_or_empty None = empty_range
 range_or_empty (Some range) = range
 
 -- the range of a method; an empty one where it has none

@@ -1,9 +1,9 @@
 //! Methods laid in one list, depth first: a walk goes down from each method to those of which it is the next one that
 //! they override. What it lays between going down to a method and up from it overrides that method, and is its range.
-ghost use Rattle.std.specs.Prelude.{◌≡◌, ℕ, List, Option, Some, None, IfOk, OnOk, length, map, slice_get};
+ghost use Rattle.std.specs.Prelude.{◌≡◌, ℕ, List, Option, Some, None, IfOk, OnOk, length, map, replicate, slice_get};
 ghost use Rattle.forest.specs.Walks.{Leads, above_in, after};
 ghost use Rattle.rules.specs.declared.ranges.Range.{Range};
-ghost use Rattle.rules.specs.Ranges.{AreSound, IsLaid, in_range, step_start};
+ghost use Rattle.rules.specs.Ranges.{AreSound, IsLaid, empty_range, in_range, step_start};
 ghost use Rattle.rules.specs.Search.{rows_of};
 
 use crate::overriding::method_at;
@@ -24,8 +24,8 @@ pub fn walk_laid(alloc: Global, nexts: &[Option<usize>]) -> Result<Laid, NoMemor
     ensures { IfOk result (λ laid. AreSound nexts.now laid.order.items laid.ranges.items) }
 {
     let steps = walk(alloc, nexts)?;
-    let mut begun = vec![in alloc; None; nexts.len()]?;
-    let mut ranges = vec![in alloc; Range { first: 0, count: 0 }; nexts.len()]?;
+    let mut begun = none_begun(alloc, nexts.len())?;
+    let mut ranges = none_ended(alloc, nexts.len())?;
     let mut order = Vec::new(alloc);
     lay_all(
         steps.as_slice(),
@@ -34,6 +34,20 @@ pub fn walk_laid(alloc: Global, nexts: &[Option<usize>]) -> Result<Laid, NoMemor
         ranges.as_mut_slice(),
     )?;
     Ok(Laid { order, ranges })
+}
+
+/// So many methods whose ranges haven't begun.
+fn none_begun(alloc: Global, count: usize) -> Result<Vec<Option<usize>>, NoMemory>
+    ensures { IfOk result (λ begun. begun.items ≡ replicate count None) }
+{
+    vec![in alloc; None; count]
+}
+
+/// So many empty ranges.
+fn none_ended(alloc: Global, count: usize) -> Result<Vec<Range>, NoMemory>
+    ensures { IfOk result (λ ranges. ranges.items ≡ replicate count empty_range) }
+{
+    vec![in alloc; Range { first: 0, count: 0 }; count]
 }
 
 /// Rows of methods, laid one behind the other.
