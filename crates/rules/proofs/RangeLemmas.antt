@@ -1,8 +1,7 @@
 -- Rows that are ranges of one list: what a walk lays leads to the method of the range, and no method is missed where each lies in the range of
 -- the next one that it overrides.
-use Rattle.std.proofs.Common.{◌≡◌, ◌≢◌, ◌↔◌, ◌⊎◌, inl, inr, ℕ, zero, suc, ◌+◌, ◌-◌, ◌<◌, ◌≤◌, ◌==◌, Bool, true, false, List, [], ◌∷◌, ◌++◌, length, map, drop, take, replicate, get_or, Option, Some, None, refl, sym, ap, subst, ◌∙◌, arith, append-nil}
-use Rattle.std.specs.Prelude.{Contains, Vec, option_and_then, option_map, slice_get}
-use Rattle.std.specs.declared.alloc.Global.{Global}
+use Rattle.std.proofs.Common.{◌≡◌, ◌≢◌, inl, inr, ℕ, zero, suc, ◌+◌, ◌-◌, ◌<◌, ◌≤◌, ◌==◌, Bool, true, false, List, [], ◌∷◌, ◌++◌, length, map, drop, take, replicate, Option, Some, None, refl, sym, ap, subst, ◌∙◌, arith, append-nil}
+use Rattle.std.specs.Prelude.{Contains, option_and_then, option_map, slice_get}
 use Rattle.std.specs.List.{AllByRecursion}
 use Rattle.std.proofs.Math.Seq.{drop-append_seam}
 use Rattle.std.proofs.Math.ListN.{drop_of_length-le}
@@ -23,8 +22,8 @@ use Rattle.forest.specs.Walks.{BeginsAt, Leads, above_in, after}
 use Rattle.forest.proofs.WalkLemmas.{next_step}
 use Rattle.rules.specs.declared.ranges.Range.{Range}
 use Rattle.rules.specs.Overriding.{AreOverriders}
-use Rattle.rules.specs.Ranges.{in_range, range_at, range_or_empty, LeadsOver, AreSound, ComesTo, IsLaid, step_start, Lies, LiesIn, LieBelowNext}
-use Rattle.rules.specs.Search.{row_at, row_or_none, rows_of}
+use Rattle.rules.specs.Ranges.{in_range, range_at, range_or_empty, LeadsOver, AreSound, StillBelow, IsLaid, step_begin, Lies, LiesIn, LieBelowNext}
+use Rattle.rules.specs.Search.{row_at, row_or_none}
 use Rattle.rules.proofs.Upwards.{lead_overrides}
 
 -- ---- what stands in a range
@@ -79,7 +78,7 @@ row_in order ranges m = by_range (slice_get ranges m) ∙ ap row_or_none (sym (s
 above_at : (nexts : List (Option ℕ)) (n : ℕ) (at : Option ℕ) → slice_get nexts n ≡ Some at → at ≡ above_in nexts n
 above_at nexts n at is = sym (ap (option_and_then (λ (up : Option ℕ). up)) is)
 
-begins_there : (nexts : List (Option ℕ)) (at : Option ℕ) (step : Step) → BeginsAt nexts at step → at ≡ step_start nexts step
+begins_there : (nexts : List (Option ℕ)) (at : Option ℕ) (step : Step) → BeginsAt nexts at step → at ≡ step_begin nexts step
 begins_there nexts at (Down n) begins = above_at nexts n at begins
 begins_there nexts at (Up n) begins = begins
 
@@ -127,7 +126,7 @@ laid_down nexts node first_of_node order more begun later ranges first method nu
     of_other : (m from k over : ℕ) → (m ≡ node → ⊥) → above_in begun m ≡ Some from → from ≤ k → slice_get order k ≡ Some over → LeadsOver nexts over m
     of_other m from k over apart is low at = so_far.so_far m from k over is low at
 
-    last : (m over j : ℕ) → (m ≡ node → ⊥) → ComesTo nexts (above_in nexts node) m → slice_get (method ∷ []) j ≡ Some over → LeadsOver nexts over m
+    last : (m over j : ℕ) → (m ≡ node → ⊥) → StillBelow nexts (above_in nexts node) m → slice_get (method ∷ []) j ≡ Some over → LeadsOver nexts over m
     last m over zero apart leads is =
         let e : node ≡ over = sym numbered ∙ same_Some method over is in
         subst (λ z. LeadsOver nexts z m) e ((λ same. apart (sym same)), leads)
@@ -146,12 +145,12 @@ laid_down nexts node first_of_node order more begun later ranges first method nu
           | inr new ↦ last m over new.0 apart (so_far.below m from old) new.2
         ]
 
-    comes : (m from : ℕ) → above_in later m ≡ Some from → (b : Bool) → (m == node) ≡ b → ComesTo nexts (Some node) m
+    comes : (m from : ℕ) → above_in later m ≡ Some from → (b : Bool) → (m == node) ≡ b → StillBelow nexts (Some node) m
     comes m from is true same = (0, ap Some (sym (eqb-true m node same)))
     comes m from is false other = let r = so_far.below m from (sym (others m (eqb-false m node other)) ∙ is) in (suc r.0, r.1)
 
 -- from the method that the walk goes up from, each other one whose range has begun is still reached
-still_below : (nexts : List (Option ℕ)) (node m : ℕ) → (m ≡ node → ⊥) → ComesTo nexts (Some node) m → ComesTo nexts (above_in nexts node) m
+still_below : (nexts : List (Option ℕ)) (node m : ℕ) → (m ≡ node → ⊥) → StillBelow nexts (Some node) m → StillBelow nexts (above_in nexts node) m
 still_below nexts node m apart (zero, is) = absurd (apart (sym (same_Some node m is)))
 still_below nexts node m apart (suc n, is) = (n, is)
 
@@ -202,7 +201,7 @@ pub record Walking (nexts : List (Option ℕ)) (rest : List Step) (order : List 
 
 pub walking_on : (nexts : List (Option ℕ)) (steps : List Step) (i : ℕ) (step : Step) (order more : List ℕ) (begun later : List (Option ℕ)) (ranges grown : List Range)
     → slice_get steps i ≡ Some step → Walking nexts (drop i steps) order begun ranges
-    → (IsLaid nexts (step_start nexts step) order begun ranges → IsLaid nexts (after nexts step) more later grown) → Walking nexts (drop (i + 1) steps) more later grown
+    → (IsLaid nexts (step_begin nexts step) order begun ranges → IsLaid nexts (after nexts step) more later grown) → Walking nexts (drop (i + 1) steps) more later grown
 walking_on nexts steps i step order more begun later ranges grown is w goes =
     let next = next_step nexts w.at steps i step is w.leads in
     record {

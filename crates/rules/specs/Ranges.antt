@@ -1,6 +1,6 @@
 -- Rows of methods that are ranges of one list, as a walk lays them: it goes down from each method to those of which it is the next one that they
 -- override.
-use Rattle.std.specs.Prelude.{◌≡◌, ◌≢◌, ℕ, zero, ◌+◌, ◌-◌, ◌<◌, ◌≤◌, List, drop, take, Option, Some, None, option_and_then, slice_get}
+use Rattle.std.specs.Prelude.{◌≡◌, ◌≢◌, ℕ, ◌+◌, ◌-◌, ◌<◌, ◌≤◌, List, drop, take, Option, Some, None, option_and_then, slice_get}
 use Rattle.base.specs.Ancestors.{steps_up, IsAncestor}
 use Rattle.forest.specs.Walks.{above_in}
 use Rattle.forest.specs.declared.steps.Step.{Step}
@@ -35,21 +35,21 @@ abbrev pub AreSound : List (Option ℕ) → List ℕ → List Range → Type 0
 AreSound nexts order ranges = (m k : ℕ) (range : Range) → slice_get ranges m ≡ Some range → range.first ≤ k → k < range.first + range.count
     → (over : ℕ) × (slice_get order k ≡ Some over) × LeadsOver nexts over m
 
--- from this method, if there is one, any number of steps lead to another one, or to itself
-abbrev pub ComesTo : List (Option ℕ) → Option ℕ → ℕ → Type 0
-ComesTo nexts at m = (n : ℕ) × (option_and_then (λ d. steps_up (above_in nexts) n d) at ≡ Some m)
+-- from this method, if there is one, any number of steps lead to the other one, or it is that one
+abbrev pub StillBelow : List (Option ℕ) → Option ℕ → ℕ → Type 0
+StillBelow nexts at m = (n : ℕ) × (option_and_then (λ d. steps_up (above_in nexts) n d) at ≡ Some m)
 
 -- the walk is at this method, or above all: the ranges that have ended are sound, and those that have begun are so far; the walk is still below
 -- the methods whose ranges have begun
 pub record IsLaid (nexts : List (Option ℕ)) (at : Option ℕ) (order : List ℕ) (begun : List (Option ℕ)) (ranges : List Range) : Type 0 where
   pub ended : AreSound nexts order ranges
   pub so_far : (m first k over : ℕ) → above_in begun m ≡ Some first → first ≤ k → slice_get order k ≡ Some over → LeadsOver nexts over m
-  pub below : (m first : ℕ) → above_in begun m ≡ Some first → ComesTo nexts at m
+  pub below : (m first : ℕ) → above_in begun m ≡ Some first → StillBelow nexts at m
 
 -- where a step of the walk begins
-abbrev pub step_start : List (Option ℕ) → Step → Option ℕ
-step_start nexts (Down n) = above_in nexts n
-step_start nexts (Up n) = Some n
+abbrev pub step_begin : List (Option ℕ) → Step → Option ℕ
+step_begin nexts (Down n) = above_in nexts n
+step_begin nexts (Up n) = Some n
 
 -- ---- whether no row misses a method
 

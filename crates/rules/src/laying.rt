@@ -3,7 +3,7 @@
 ghost use Rattle.std.specs.Prelude.{◌≡◌, ℕ, List, Option, Some, None, IfOk, OnOk, length, map, replicate, slice_get};
 ghost use Rattle.forest.specs.Walks.{Leads, above_in, after};
 ghost use Rattle.rules.specs.declared.ranges.Range.{Range};
-ghost use Rattle.rules.specs.Ranges.{AreSound, IsLaid, empty_range, in_range, step_start};
+ghost use Rattle.rules.specs.Ranges.{AreSound, IsLaid, empty_range, in_range, step_begin};
 ghost use Rattle.rules.specs.Search.{rows_of};
 
 use crate::overriding::method_at;
@@ -89,7 +89,7 @@ fn lay(
     begun: &mut [Option<usize>],
     ranges: &mut [Range],
 ) -> Result<(), NoMemory>
-    ensures { OnOk result ((nexts : List (Option ℕ)) → IsLaid nexts (step_start nexts step) order.old.items begun.old ranges.old → IsLaid nexts (after nexts step) order.new.items begun.new ranges.new) }
+    ensures { OnOk result ((nexts : List (Option ℕ)) → IsLaid nexts (step_begin nexts step) order.old.items begun.old ranges.old → IsLaid nexts (after nexts step) order.new.items begun.new ranges.new) }
 {
     match step {
         Step::Down(node) => go_down(node, order, begun),
