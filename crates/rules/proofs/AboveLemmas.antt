@@ -10,8 +10,8 @@ use Rattle.core_program.specs.declared.program.CoreMethod.{CoreMethod}
 use Rattle.core_program.specs.declared.program.CoreProgram.{CoreProgram}
 use Rattle.core_program.specs.Core.{Method}
 use Rattle.core_program.specs.Kept.{kept_class}
-use Rattle.core_program.specs.Overridden.{class_owning, owner}
-use Rattle.core_program.specs.Pairs.{KeptClass, named_in, nearest_named, own_named, part_above}
+use Rattle.core_program.specs.Overridden.{class_of_method, class_owning, owner}
+use Rattle.core_program.specs.Pairs.{KeptClass, is_own_of, named_in, nearest_named, own_named, part_above}
 use Rattle.core_program.specs.Views.{kept_classes, method_of}
 use Rattle.core_program.proofs.Climbing.{nearest_none}
 use Rattle.core_program.proofs.NamedParts.{own_has}
@@ -137,6 +137,13 @@ module _ (p : CoreProgram) where
       by_method None = refl
       by_method (Some x) = refl
 
+  -- the class in which a method stands among the own ones, where it has a name
+  pub class_is : (k m name : ℕ) (c : KeptClass) → slice_get (kept_classes p) k ≡ Some c → is_own_of m c ≡ true → slice_get p.names.items m ≡ Some name → class_of_method p m ≡ Some c
+  class_is k m name c there mine named =
+      let owned = sym (owner_is m) ∙ p.owned k c there m name mine named in
+      ap (option_and_then (λ j. option_and_then (class_owning m) (slice_get (kept_classes p) j))) owned
+      ∙ ap (option_and_then (class_owning m)) there ∙ ap (λ b. if b then Some c else None) mine
+
   -- the method at a place among a class's own ones, and with this name
   pub record IsOwnAt (k name place : ℕ) : Type 0 where
     pub own : own_with p k name ≡ Some place
@@ -151,9 +158,7 @@ module _ (p : CoreProgram) where
       by_class (Some c) there low high =
           let mine = and_from (nat_le c.first_method place) (nat_lt place (c.first_method + c.method_count)) (le-leb c.first_method place low)
           (lt-ltb place (c.first_method + c.method_count) (omega (arith, high))) in
-          let owned = sym (owner_is place) ∙ p.owned k c there place name mine named in
-          let class = ap (option_and_then (λ j. option_and_then (class_owning place) (slice_get (kept_classes p) j))) owned
-          ∙ ap (option_and_then (class_owning place)) there ∙ ap (λ b. if b then Some c else None) mine in
+          let class = class_is k place name c there mine named in
           record {
             own = ap (option_and_then (own_named p.names.items name)) there ∙ p.named k c there place name mine named;
             above = ap (option_and_then (λ (c : KeptClass). option_and_then (nearest_from p c.above) (slice_get p.names.items place))) class

@@ -18,6 +18,9 @@ pub mod Required
 pub mod Leading
 -- A walk through the classes finds the nearest methods above (AboveLemmas).
 mod AboveLemmas
+-- Rows that are ranges of one list: what the next overridden methods lead to (Upwards), and what a walk lays (RangeLemmas).
+mod Upwards
+mod RangeLemmas
 -- What those rows tell gives the near paths (PassingLemmas).
 mod PassingLemmas
 -- Lemmas on callers: measures of bodies (Weights, Blocks), methods in memory (CallerLookups), rows of callers (CalleeLemmas), and what the effect

@@ -11,6 +11,8 @@ pub mod Examples
 pub mod Clauses
 pub mod Search
 pub mod Overriding
+-- Rows that are ranges of one list (Ranges).
+pub mod Ranges
 pub mod Limits
 -- The rows of nearest methods that override (Nearest).
 pub mod Nearest

@@ -1,7 +1,8 @@
 //! The nearest of the methods that override a method.
-ghost use Rattle.std.specs.Prelude.{◌≡◌, Some, IfOk, OnOk};
+ghost use Rattle.std.specs.Prelude.{◌≡◌, ℕ, Some, IfOk, OnOk};
 ghost use Rattle.core_program.specs.Overridden.{next_overridden, other_than};
 ghost use Rattle.core_program.specs.Views.{program_of};
+ghost use Rattle.forest.specs.Walks.{above_in};
 ghost use Rattle.rules.specs.Above.{nearest_above, AreRight};
 ghost use Rattle.rules.specs.Nearest.{AreNearest};
 ghost use Rattle.rules.specs.Overriding.{IsAddedTo};
@@ -52,6 +53,26 @@ pub fn nearest_overriders(alloc: Global, program: &CoreProgram) -> Result<Neares
         add_next(alloc, program, known, method_at(place)?, &mut rows)?;
     }
     Ok(NearestMethods { rows })
+}
+
+/// For each method the number of the next one that it overrides.
+pub fn next_methods(alloc: Global, program: &CoreProgram) -> Result<Vec<Option<usize>>, NoMemory>
+    ensures { IfOk result (λ nexts. (m : ℕ) → above_in nexts.items m ≡ next_overridden program.now m) }
+{
+    let noted = nearest_above(alloc, program)?;
+    let known = noted.as_slice();
+    let mut nexts = Vec::new(alloc);
+    for place in 0..program.methods().len() {
+        nexts.push(number(next_of(program, known, method_at(place)?)))?;
+    }
+    Ok(nexts)
+}
+
+/// The number of a method.
+fn number(method: Option<MethodId>) -> Option<usize>
+    ensures { result ≡ method }
+{
+    Some(method?.0 as usize)
 }
 
 /// Adds a method to the row of the next one that it overrides.

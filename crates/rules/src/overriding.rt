@@ -5,7 +5,10 @@ ghost use Rattle.core_program.specs.Views.{program_of};
 ghost use Rattle.rules.specs.Overriding.{told_each, AreOverriders, IsAddedTo};
 ghost use Rattle.rules.specs.Search.{row_at, rows_of};
 
-use crate::search::{push_at, row};
+use crate::laying::{Laid, rows_laid, walk_laid};
+use crate::nearest::next_methods;
+use crate::ranges::{in_range, lie_below_next, range_at};
+use crate::search::push_at;
 use core_program::CoreProgram;
 use paths::MethodId;
 use std::alloc::{AllocError as NoMemory, Global};
@@ -14,24 +17,25 @@ use std::marker::Model;
 /// For each method those that override it.
 #[derive(Drop)]
 pub struct OverridingMethods {
-    rows: Vec<Vec<MethodId>>,
+    laid: Laid,
 }
 
 impl Model for OverridingMethods {
-    ghost use Rattle.std.specs.Prelude.{ℕ, List};
-    ghost use Rattle.rules.specs.Search.{rows_of};
+    ghost use Rattle.std.specs.Prelude.{ℕ, List, map};
+    ghost use Rattle.rules.specs.Ranges.{in_range};
 
     ghost Value = { List (List ℕ) };
 
-    ghost view = { λ o. rows_of o.rows.items };
+    ghost view = { λ o. map (in_range o.laid.order.items) o.laid.ranges.items };
 }
 
 impl OverridingMethods {
-    /// The methods that override this one, in the order of their classes; none where it isn't there.
+    /// The methods that override this one, depth first, each before those that override it; none where it isn't there.
     pub fn of(&self, m: MethodId) -> &[MethodId]
         ensures { result.now ≡ row_at self.now m }
     {
-        row(self.rows.as_slice(), m.0 as usize)
+        let range = range_at(self.laid.ranges.as_slice(), m.0 as usize);
+        in_range(self.laid.order.as_slice(), range)
     }
 }
 
@@ -45,16 +49,31 @@ pub fn method_at(place: usize) -> Result<MethodId, NoMemory>
     }
 }
 
-/// For each method of a program those that override it.
+/// For each method of a program those that override it. What a walk lays is all of it, but on circles of classes.
 pub fn overriders(alloc: Global, program: &CoreProgram) -> Result<OverridingMethods, NoMemory>
     ensures { IfOk result (AreOverriders (program_of program.now)) }
+{
+    let noted = next_methods(alloc, program)?;
+    let nexts = noted.as_slice();
+    let laid = walk_laid(alloc, nexts)?;
+    if lie_below_next(nexts, laid.order.as_slice(), laid.ranges.as_slice()) {
+        return Ok(OverridingMethods { laid });
+    }
+    let rows = overriding_rows(alloc, program)?;
+    let laid = rows_laid(alloc, rows.as_slice())?;
+    Ok(OverridingMethods { laid })
+}
+
+/// For each method a row of its own.
+fn overriding_rows(alloc: Global, program: &CoreProgram) -> Result<Vec<Vec<MethodId>>, NoMemory>
+    ensures { IfOk result (λ rows. AreOverriders (program_of program.now) (rows_of rows.items)) }
 {
     let mut rows = Vec::new(alloc);
     let count = program.methods().len();
     for place in 0..count {
         add_overridden(alloc, program, method_at(place)?, &mut rows)?;
     }
-    Ok(OverridingMethods { rows })
+    Ok(rows)
 }
 
 /// Adds a method to the rows of those that it overrides.
