@@ -1,8 +1,7 @@
 -- What is said of an overriding method's paths where these alone are known that the overridden one knows.
-use Rattle.std.proofs.Common.{◌≡◌, ℕ, Bool, true, false, ◌&&◌, ◌||◌, List, [], ◌∷◌, ◌++◌, map, Some, None, refl, sym, ap, ◌∙◌}
+use Rattle.std.proofs.Common.{◌≡◌, ℕ, Bool, true, false, ◌&&◌, List, [], ◌∷◌, map, Some, None, refl, ap, ◌∙◌}
 use Rattle.std.specs.Prelude.{Option, Result, Ok, Err, IfOk, if◌then◌else◌, slice_get}
-use Rattle.std.proofs.lemmas.List.Folds.{list_any-append}
-use Rattle.paths.specs.Paths.{PathData, path_eq}
+use Rattle.paths.specs.Paths.{PathData}
 use Rattle.algebra.specs.declared.basic.Basic.{Basic}
 use Rattle.algebra.specs.HeldPaths.{Held, has_path, holds_at}
 use Rattle.core_program.specs.Core.{Program, Method}
@@ -12,10 +11,6 @@ use Rattle.rules.proofs.SetLemmas.{held_whole}
 use Rattle.infer.specs.Tables.{chosen, table_or_empty, table_assignment}
 use Rattle.infer.specs.Names.{held_partners, known_name}
 use Rattle.infer.specs.Cells.{greatest_of, inferred_effect}
-
--- a path that one of two lists has, or neither
-pub name_known : (xs ys : List PathData) (q : PathData) (b : Bool) → b ≡ (has_path xs q || has_path ys q) → (if b then Some q else None) ≡ known_name (xs ++ ys) q
-name_known xs ys q b is = ap (λ t. if t then Some q else None) (is ∙ sym (list_any-append (λ p. path_eq p q) xs ys))
 
 name_held : (H : Held) (q : PathData) (b : Bool) → holds_at (if b then Some q else None) H ≡ (b && H q)
 name_held H q true = refl
