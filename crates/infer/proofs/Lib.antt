@@ -4,6 +4,7 @@ pub mod Locals
 pub mod Walks
 pub mod TableParts
 pub mod RunLemmas
+pub mod KnownLemmas
 pub mod ChainLemmas
 pub mod CellLemmas
 pub mod EqualTables

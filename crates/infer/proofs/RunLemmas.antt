@@ -108,26 +108,26 @@ module _ (P : Program) (rel : ℕ → List PathData) (overs : List ℕ) (method 
       greatest_same rel A B m same (effect P rel A method.body H) (effect P rel B method.body H) overs H (second_false (stmt_calls (λ n. n == m) method.body) (has_method overs m) quiet)
       (stmt_same P rel A B (λ n. n == m) same method.body H (first_false (stmt_calls (λ n. n == m) method.body) (has_method overs m) quiet))
 
--- One table after the other is joined to a value.
+-- One table after the other is joined to a value, of each what it says of the paths that are known here.
 
 -- the value so far is known, and with what is assigned to the rest it is the value with all
-pub record IsJoined {S V : Type 0} (k : S → V → Type 0) (v : S → V → Held → Basic) (rel : ℕ → List PathData) (A : Assignment) (old : S) (value : V) (all : List ℕ) (now : S) (so_far : V) (rest : List ℕ) : Type 0 where
+pub record IsJoined {S V : Type 0} (k : S → V → Type 0) (v : S → V → Held → Basic) (rel : ℕ → List PathData) (A : Assignment) (here : List PathData) (old : S) (value : V) (all : List ℕ) (now : S) (so_far : V) (rest : List ℕ) : Type 0 where
   pub known : k now so_far
-  pub same : (H : Held) → greatest_of rel A (v now so_far H) rest H ≡ greatest_of rel A (v old value H) all H
+  pub same : (H : Held) → greatest_of rel A (v now so_far H) rest (held_in here H) ≡ greatest_of rel A (v old value H) all (held_in here H)
   pub keeps : Keeps k v old now
 
-module _ {S V : Type 0} (k : S → V → Type 0) (v : S → V → Held → Basic) (rel : ℕ → List PathData) (A : Assignment) (old : S) (value : V) (all : List ℕ) where
-  pub joined_none : k old value → IsJoined k v rel A old value all old value all
+module _ {S V : Type 0} (k : S → V → Type 0) (v : S → V → Held → Basic) (rel : ℕ → List PathData) (A : Assignment) (here : List PathData) (old : S) (value : V) (all : List ℕ) where
+  pub joined_none : k old value → IsJoined k v rel A here old value all old value all
   joined_none known = record { known = known; same = λ H. refl; keeps = keeps_itself k v old }
 
-  pub joined_more : (now mid new : S) (so_far own next : V) (n : ℕ) (rest : List ℕ) → IsJoined k v rel A old value all now so_far (n ∷ rest)
-      → Keeps k v now mid → ((H : Held) → v mid own H ≡ A n (held_in (rel n) H)) → Keeps k v mid new → k new next → ((H : Held) → v new next H ≡ join_of (v mid so_far H) (v mid own H))
-      → IsJoined k v rel A old value all new next rest
+  pub joined_more : (now mid new : S) (so_far own next : V) (n : ℕ) (rest : List ℕ) → IsJoined k v rel A here old value all now so_far (n ∷ rest)
+      → Keeps k v now mid → ((H : Held) → v mid own H ≡ A n (held_in (rel n) (held_in here H))) → Keeps k v mid new → k new next → ((H : Held) → v new next H ≡ join_of (v mid so_far H) (v mid own H))
+      → IsJoined k v rel A here old value all new next rest
   joined_more now mid new so_far own next n rest joined keeps_own own_is keeps_next known next_is = record {
     known = known;
     same = λ H.
         let front = next_is H ∙ (let one = keeps_own.same so_far joined.known H in let two = own_is H in λ i. join_of (one i) (two i)) in
-        ap (λ b. greatest_of rel A b rest H) front ∙ joined.same H;
+        ap (λ b. greatest_of rel A b rest (held_in here H)) front ∙ joined.same H;
     keeps = keeps_both k v old mid new (keeps_both k v old now mid joined.keeps keeps_own) keeps_next;
   }
 

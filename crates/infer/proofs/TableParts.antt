@@ -100,6 +100,14 @@ pub length_parts : (f : List PathData → Basic) (held ps : List PathData) → l
 length_parts f held [] = refl
 length_parts f held (p ∷ ps) = length-append (at_parts f held ps) (at_parts f (held ++ p ∷ []) ps) ∙ (λ i. length_parts f held ps i + length_parts f (held ++ p ∷ []) ps i)
 
+-- what is said of each list within the held paths and those of the list is all that the parts tell
+pub parts_within : (f g : List PathData → Basic) (held ps : List PathData) → ((qs : List PathData) → IsSubset (has_path qs) (has_path (held ++ ps)) → f qs ≡ g qs) → at_parts f held ps ≡ at_parts g held ps
+parts_within f g held [] same = ap (λ b. b ∷ []) (same held (λ q e. in_first held [] q e))
+parts_within f g held (p ∷ ps) same =
+    let without = parts_within f g held ps (λ qs part. same qs (λ q e. append_part held ps (p ∷ ps) (later p ps) q (part q e))) in
+    let with = parts_within f g (held ++ p ∷ []) ps (λ qs part. same qs (λ q e. subst (λ hs. has_path hs q ≡ true) (append_assoc held (p ∷ []) ps) (part q e))) in
+    λ i. without i ++ with i
+
 chosen_at : (f : List PathData → Basic) (H : Held) (held : List PathData) (p : PathData) (ps : List PathData) (b : Bool)
     → chosen (map H ps) (at_parts f held ps) ≡ f (held ++ filter H ps)
     → chosen (map H ps) (at_parts f (held ++ p ∷ []) ps) ≡ f ((held ++ p ∷ []) ++ filter H ps)

@@ -23,6 +23,10 @@ program_at walk = program_of walk.program.now
 abbrev pub rel_at : Walk → ℕ → List PathData
 rel_at walk = rel_of walk.sets.now
 
+-- the paths of which a call of the method whose body it is may hold some: these, which it requires, and its relevant ones
+abbrev pub known_paths : Walk → (required : List PathData) → List PathData
+known_paths walk required = required ++ rel_of walk.sets.now walk.method
+
 -- the paths near the method whose body it is
 abbrev pub near_at : Walk → List PathData
 near_at walk = near_of walk.sets.now walk.method

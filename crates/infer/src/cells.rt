@@ -1,21 +1,23 @@
 //! The tables of all methods as cells of a least fixpoint: what the calls of a method demand of its table.
-ghost use Rattle.std.specs.Prelude.{◌≡◌, ◌<◌, Some, IfOk, OnOk, slice_get};
-ghost use Rattle.algebra.specs.HeldPaths.{Held};
+ghost use Rattle.std.specs.Prelude.{◌≡◌, ◌<◌, ◌++◌, map, Some, IfOk, OnOk, slice_get};
+ghost use Rattle.algebra.specs.HeldPaths.{Held, has_path};
 ghost use Rattle.algebra.specs.Values.{Keeps};
 ghost use Rattle.core_program.specs.Views.{program_of, method_of};
 ghost use Rattle.rules.specs.Near.{AreRelevant, rel_of};
+ghost use Rattle.rules.specs.Rules.{IsSubset, held_in};
 ghost use Rattle.rules.specs.Search.{row_at as overs_at};
 ghost use Rattle.fixpoint.specs.Assignments.{AreAllMet, IsBetween};
-ghost use Rattle.infer.specs.Bodies.{program_at, rel_at, assigned_at};
+ghost use Rattle.infer.specs.Bodies.{program_at, rel_at, known_paths, assigned_at};
 ghost use Rattle.rules.specs.Called.{counts_as_caller};
 ghost use Rattle.infer.specs.Tables.{table_assignment};
+ghost use Rattle.infer.specs.Names.{known_name};
 ghost use Rattle.infer.specs.Cells.{AreCells, table_numbers, greatest_of, inferred_effect, demands_of, demands_at, is_met};
 
 use crate::judged::Judged;
 use crate::rows::{are_below, joined, put_parts};
-use crate::table::{Table, table_at, value_of};
+use crate::table::{Table, pick, table_at};
 use crate::walk::{Walk, stmt_value};
-use algebra::{Algebra, Basic};
+use algebra::{Algebra, Basic, has};
 use core_program::CoreMethod;
 use fixpoint::{Rising, least};
 use paths::{MethodId, Path};
@@ -88,7 +90,8 @@ fn method_demands<G: Algebra>(
     Ok(row)
 }
 
-/// What a call of the walk's method, which is this one, may come to: its body, or one of these methods, which override it.
+/// What a call of the walk's method, which is this one, may come to: its body, or one of these methods, which override
+/// it. It is said of sets of paths that the method requires or that are relevant to it.
 fn run_value<G: Algebra>(
     alloc: Global,
     walk: &Walk<'_>,
@@ -99,34 +102,94 @@ fn run_value<G: Algebra>(
     requires relevant { AreRelevant (program_at walk.now) walk.now.sets.now }
     requires is { slice_get (program_at walk.now).methods walk.now.method ≡ Some (method_of method.now) }
     ensures known { IfOk result (λ r. G.IsKnown algebra.new r) }
-    ensures value { IfOk result (λ r. (H : Held) →
+    ensures value { IfOk result (λ r. (H : Held) → IsSubset H (has_path (known_paths walk.now (method_of method.now).requires_)) →
         G.value algebra.new r H ≡ inferred_effect (program_at walk.now) (rel_at walk.now) (assigned_at walk.now) overs.now (method_of method.now) H) }
     ensures keeps { Keeps G.IsKnown G.value algebra.old algebra.new }
 {
     let body = stmt_value(alloc, walk, algebra, &method.body)?;
-    with_tables(alloc, walk, algebra, overs, body)
+    with_tables(
+        alloc,
+        walk,
+        algebra,
+        method.requires_.as_slice(),
+        overs,
+        body,
+    )
 }
 
-/// The value, or one of the tables of these methods: the greatest at each set.
+/// The value, or one of the tables of these methods at the paths that are known where these are required: the greatest
+/// at each set.
 fn with_tables<G: Algebra>(
     alloc: Global,
     walk: &Walk<'_>,
     algebra: &mut G,
+    required: &[Path],
     methods: &[MethodId],
     value: G::A,
 ) -> Result<G::A, NoMemory>
     requires { G.IsKnown algebra.old value }
     ensures known { IfOk result (λ r. G.IsKnown algebra.new r) }
     ensures value { IfOk result (λ r. (H : Held) →
-        G.value algebra.new r H ≡ greatest_of (rel_at walk.now) (assigned_at walk.now) (G.value algebra.old value H) methods.now H) }
+        G.value algebra.new r H ≡ greatest_of (rel_at walk.now) (assigned_at walk.now) (G.value algebra.old value H) methods.now (held_in (known_paths walk.now required.now) H)) }
     ensures keeps { Keeps G.IsKnown G.value algebra.old algebra.new }
 {
     let mut greatest = value;
     for method in methods {
-        let own = value_of(alloc, walk.sets, walk.tables, algebra, *method)?;
+        let own = value_here(alloc, walk, algebra, required, *method)?;
         greatest = algebra.join(alloc, &greatest, &own)?;
     }
     Ok(greatest)
+}
+
+/// The value of the table of a method, for which no other paths are held than those that are known to the walk's method
+/// where these are required.
+fn value_here<G: Algebra>(
+    alloc: Global,
+    walk: &Walk<'_>,
+    algebra: &mut G,
+    required: &[Path],
+    method: MethodId,
+) -> Result<G::A, NoMemory>
+    ensures known { IfOk result (λ r. G.IsKnown algebra.new r) }
+    ensures value { IfOk result (λ r. (H : Held) →
+        G.value algebra.new r H ≡ assigned_at walk.now method (held_in (known_paths walk.now required.now) H)) }
+    ensures keeps { Keeps G.IsKnown G.value algebra.old algebra.new }
+{
+    let relevant = walk.sets.rel(walk.method);
+    let names = names_here(alloc, walk.sets.rel(method), required, relevant)?;
+    pick(
+        alloc,
+        algebra,
+        names.as_slice(),
+        table_at(walk.tables, method),
+    )
+}
+
+/// Each of these paths with its own name where it is known, as one that is required or relevant; else with none.
+fn names_here(
+    alloc: Global,
+    paths: &[Path],
+    required: &[Path],
+    relevant: &[Path],
+) -> Result<Vec<(Path, Option<Path>)>, NoMemory>
+    ensures { IfOk result (λ names. names.items ≡ map (λ q. (q, known_name (required.now ++ relevant.now) q)) paths.now) }
+{
+    let mut names = Vec::new(alloc);
+    for path in paths {
+        names.push((path.copy(), known_name(path, required, relevant)))?;
+    }
+    Ok(names)
+}
+
+/// The path itself where it is required or relevant; none where it is neither.
+fn known_name(path: &Path, required: &[Path], relevant: &[Path]) -> Option<Path>
+    ensures { result ≡ known_name (required.now ++ relevant.now) path.now }
+{
+    if has(required, path) || has(relevant, path) {
+        Some(path.copy())
+    } else {
+        None
+    }
 }
 
 /// Copies of paths.
