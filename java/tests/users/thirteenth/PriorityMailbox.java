@@ -32,21 +32,21 @@ public class PriorityMailbox<T> implements Mailbox<T>, Iterable<T> {
     }
 
     @Override
-    public synchronized void post(Lane lane, T letter) { // refused: alarm: the expert sees no interruption
+    public synchronized void post(Lane lane, T letter) { // accepted
         lanes.get(lane).addLast(letter);
         total++;
         notifyAll();
     }
 
     @Override
-    public synchronized T take() throws InterruptedException { // refused: alarm: the expert sees no interruption
+    public synchronized T take() throws InterruptedException { // accepted
         while (total == 0) {
             wait();
         }
         return next().orElseThrow();
     }
 
-    public synchronized Optional<T> poll() { // refused: alarm: the expert sees no interruption
+    public synchronized Optional<T> poll() { // accepted
         return next();
     }
 
@@ -85,7 +85,7 @@ public class PriorityMailbox<T> implements Mailbox<T>, Iterable<T> {
         return total;
     }
 
-    public synchronized Map<Lane, Integer> depths() { // refused: alarm: the expert sees no interruption
+    public synchronized Map<Lane, Integer> depths() { // accepted
         Map<Lane, Integer> depths = new EnumMap<>(Lane.class);
         lanes.forEach((lane, queue) -> depths.put(lane, queue.size()));
         return depths;
@@ -100,7 +100,7 @@ public class PriorityMailbox<T> implements Mailbox<T>, Iterable<T> {
         return lanes.values().stream().flatMap(Collection::stream).toList().iterator();
     }
 
-    public synchronized void discard(Lane lane) { // refused: alarm: the expert sees no interruption
+    public synchronized void discard(Lane lane) { // accepted
         Deque<T> queue = lanes.get(lane);
         total -= queue.size();
         queue.clear();

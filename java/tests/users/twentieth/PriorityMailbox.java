@@ -87,7 +87,7 @@ public class PriorityMailbox<M> {
         return first;
     }
 
-    public Envelope<M> receive() throws InterruptedException { // refused: alarm: one region; await comes before any write, the condition is looked at again after it
+    public Envelope<M> receive() throws InterruptedException { // accepted
         mailLock.lock();
         try {
             while (paused || pending == 0) {
@@ -123,7 +123,7 @@ public class PriorityMailbox<M> {
         return paused;
     }
 
-    public int pending(Priority priority) { // refused: alarm: one region
+    public int pending(Priority priority) { // accepted
         mailLock.lock();
         try {
             return lanes.get(priority).size();

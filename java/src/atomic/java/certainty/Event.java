@@ -95,7 +95,7 @@ record Event(Object thing, Touch.Kind kind, String asked, Path.Root owner, List<
 
     /** Whether it takes something out, or puts something in its place. */
     boolean takes() {
-        return writes() && !kind.adds();
+        return writes() && !kind.addsAlone();
     }
 
     /** Whether the other one touches what is found in the thing of this one: an entry, or a field of its object. */

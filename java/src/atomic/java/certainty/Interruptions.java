@@ -83,7 +83,7 @@ public final class Interruptions {
         boolean isFirst(Course course, Event each) {
             return (!ofThis || each.isOfThis()) && (changesOne
                 ? !walks && !(fills && each.finds()) && (course.looks(each) || adds && each.takes())
-                : each.writes() && !(found && each.kind().adds()) && !(walks && each.kind().tries()));
+                : each.writes() && !(found && each.kind().addsAlone()) && !(walks && each.kind().tries()));
         }
 
         /** Whether an event of a course has a conflict with the second one. */
@@ -93,7 +93,7 @@ public final class Interruptions {
 
         /** Whether one change stands against two look-ups, which tell the same in front of it and behind it. */
         boolean isFoundTwice(Event each, Event other) {
-            return twice && each == other && (apart || each.kind().adds());
+            return twice && each == other && (apart || each.kind().addsAlone());
         }
     }
 

@@ -191,7 +191,7 @@ final class Confinement {
     }
 
     /** Whether only code of the same source can call a method. Another one that nobody here calls is for others. */
-    private static boolean isHidden(JavaMethod method) {
+    static boolean isHidden(JavaMethod method) {
         return method.isPrivate() || isHidden(method.owner());
     }
 
@@ -220,7 +220,7 @@ final class Confinement {
     }
 
     /** Whether a member is named without an object, or behind {@code this}. */
-    private static boolean isOwn(Tree tree) {
+    static boolean isOwn(Tree tree) {
         return tree instanceof IdentifierTree || tree instanceof MemberSelectTree select
             && (Uses.isName(select.getExpression(), "this") || select.getExpression() instanceof MemberSelectTree outer
                 && outer.getIdentifier().contentEquals("this"));

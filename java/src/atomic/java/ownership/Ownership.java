@@ -25,6 +25,7 @@ import java.util.HashSet;
 import java.util.List;
 import java.util.Map;
 import java.util.Set;
+import java.util.function.Predicate;
 import javax.lang.model.element.Element;
 import javax.lang.model.element.ElementKind;
 import javax.lang.model.element.ExecutableElement;
@@ -47,6 +48,8 @@ public final class Ownership {
     private final Comparators comparators;
     private final Brought brought;
     private final Taken taken;
+    private InnerOwners inner;
+    private UnchangedParts unchangedParts;
     private final Map<VariableElement, String> made = new HashMap<>();
     private final Map<JavaMethod, String> given = new HashMap<>();
     private final Map<VariableElement, Long> escapes = new HashMap<>();
@@ -103,8 +106,41 @@ public final class Ownership {
         return brought;
     }
 
-    /** Finds the fields whose objects stay within their classes, under whatever names. */
-    public void confine() {
+    /**
+     * Finds the fields whose objects stay within their classes, under whatever names, and what is within such objects;
+     * {@code asked} says which methods are asked to be atomic.
+     */
+    public void confine(Predicate<JavaMethod> asked) {
+        confine();
+        inner = new InnerOwners(program, this, asked);
+        inner.find();
+        inner.names().forEach(confined::putIfAbsent);
+        unchangedParts = new UnchangedParts(program, this, asked);
+    }
+
+    /** What objects of private classes are made of, and nobody changes. */
+    public UnchangedParts unchangedParts() {
+        return unchangedParts;
+    }
+
+    /** The field whose contents what an expression gives is a part of, such as a list in a map of lists; null where that isn't known. */
+    public VariableElement inner(Tree tree) {
+        return inner.of(tree);
+    }
+
+    /** Whether a call takes a thing that is within a field's object out for good, so that its caller alone has it. */
+    public boolean isTakenOut(Tree call) {
+        return inner.isTaken(call);
+    }
+
+    /** Whether a local has such a thing, and nothing else. */
+    public boolean hasTakenOut(Element local) {
+        return local instanceof VariableElement variable
+            && local.getKind() == ElementKind.LOCAL_VARIABLE && uses.isSettled(variable) && uses.assignments(local).size() == 1
+            && uses.assignments(local).stream().allMatch(each -> each.value() != null && inner.isTaken(Uses.bare(each.value())));
+    }
+
+    private void confine() {
         Map<JavaClass, List<MethodInvocationTree>> clones = Clones.byClass(program, uses);
         for (JavaClass each : program.classes()) {
             List<MethodInvocationTree> copying = program.overriding().kin(each).stream().flatMap(kin ->
@@ -136,53 +172,14 @@ public final class Ownership {
         return shared.contains(field);
     }
 
-    /** Whether objects of a class are only made for a library's wrapper, which takes a lock around each call of theirs. */
-    public boolean isWrapped(JavaClass each) {
-        List<Tree> makings = sites.makings(each);
-        return !makings.isEmpty() && makings.stream().allMatch(making ->
-            attribution.parent(making) instanceof MethodInvocationTree call
-            && attribution.element(call) instanceof ExecutableElement symbol && program.method(symbol) == null
-            && "java.util.Collections.Synchronized".equals(escape.choose(call.getMethodSelect(), symbol).makes()));
-    }
-
-    /** Whether that lock is the one of the object around such an object. */
-    public boolean isWrappedByOuter(JavaClass each) {
-        return each.hasOuterObject() && isWrapped(each) && sites.makings(each).stream().allMatch(making ->
-            attribution.parent(making) instanceof MethodInvocationTree call && call.getArguments().size() == 2
-            && Uses.isName(Uses.bare(call.getArguments().get(1)), "this") && isDirectlyIn(making, each.outer()));
-    }
-
-    private boolean isDirectlyIn(Tree tree, JavaClass wanted) {
-        Tree each = tree;
-        while (each != null && !(each instanceof ClassTree)) {
-            each = attribution.parent(each);
-        }
-        return each != null && program.find(attribution.element(each)) == wanted;
+    /** Objects that are only made for a library's wrapper. */
+    public Wrapped wrapped() {
+        return new Wrapped(program, escape, sites);
     }
 
     /** Whether all that a field holds is given by calls on objects of classes at hand, such as their own iterators. */
     public boolean isGivenHere(VariableElement field) {
-        List<Uses.Assignment> all = field.getModifiers().contains(Modifier.PRIVATE) ? uses.assignments(field) : List.of();
-        return field.getKind() == ElementKind.FIELD && !all.isEmpty() && all.stream().allMatch(each ->
-            each.value() != null && Uses.bare(each.value()) instanceof MethodInvocationTree call
-            && call.getMethodSelect() instanceof MemberSelectTree select && isAtHand(select.getExpression()));
-    }
-
-    /** Whether an expression's class is at hand, or that of each argument which a private class's parameter is given. */
-    private boolean isAtHand(ExpressionTree tree) {
-        Element symbol = attribution.element(Uses.bare(tree));
-        if (program.find(attribution.type(tree)) != null) {
-            return true;
-        } else if (symbol == null || symbol.getKind() != ElementKind.PARAMETER) {
-            return false;
-        }
-        JavaMethod method = program.method(symbol.getEnclosingElement());
-        int at = method == null ? -1 : method.symbol().getParameters().indexOf(symbol);
-        boolean hidden = at >= 0 && method.isConstructor() && !sites.isReferenced(method.symbol())
-            && method.owner().symbol().getModifiers().contains(Modifier.PRIVATE);
-        List<Tree> all = hidden ? sites.of(method.symbol()) : List.of();
-        return !all.isEmpty() && all.stream().allMatch(each -> each instanceof NewClassTree made
-            && at < made.getArguments().size() && program.find(attribution.type(made.getArguments().get(at))) != null);
+        return new GivenHere(program, uses, sites).is(field);
     }
 
     /** Whether a method only looks at the array in its parameter. */
@@ -288,6 +285,11 @@ public final class Ownership {
         }
         Choice choice = escape.choose(call.getMethodSelect(), symbol);
         return choice.makes();
+    }
+
+    /** Whether a method gives a new array or collection at each return. */
+    boolean givesNew(JavaMethod method) {
+        return isNew(returned(method));
     }
 
     /** The class of the new array or collection that a method gives at each return, where no other method may run in its place; else null. */

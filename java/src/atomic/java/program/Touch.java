@@ -24,6 +24,8 @@ public record Touch(Object object, Kind kind, String asked) {
         FIND,
         /** It adds what isn't there. */
         ADD,
+        /** It adds what an earlier look hasn't found, with no lock around the two: in a run without interruption it adds. */
+        PUT,
         /** It makes the object of a field that has none. */
         MAKE,
         /** It sets such a field to null. */
@@ -49,6 +51,11 @@ public record Touch(Object object, Kind kind, String asked) {
         /** Whether what was found before is found behind it too. */
         public boolean adds() {
             return this == ADD || this == MAKE;
+        }
+
+        /** The same where nobody comes in between. */
+        public boolean addsAlone() {
+            return adds() || this == PUT;
         }
 
         /** Whether it changes something only if nobody came in between. */

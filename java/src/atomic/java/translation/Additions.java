@@ -30,11 +30,20 @@ record Additions(Services services) {
 
     /** Whether a {@code put} stands where its region has found that one of these maps hasn't its key. */
     boolean adds(MethodInvocationTree put, Set<String> maps) {
+        return adds(put, maps, services.stable().region(put));
+    }
+
+    /** Whether its method, or the function that it stands in, has found that. */
+    boolean addsAlone(MethodInvocationTree put, Set<String> maps) {
+        return adds(put, maps, services.program().around(put));
+    }
+
+    private boolean adds(MethodInvocationTree put, Set<String> maps, Tree region) {
         if (put.getArguments().size() != 2) {
             return false;
         }
         String key = put.getArguments().get(0).toString();
-        return isAbsent(put, new Question(services.stable().region(put), tree -> isCall(tree, "get", maps, key),
+        return isAbsent(put, new Question(region, tree -> isCall(tree, "get", maps, key),
             tree -> isCall(tree, "containsKey", maps, key)));
     }
 

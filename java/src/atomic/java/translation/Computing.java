@@ -157,8 +157,9 @@ final class Computing {
     /** Whether the making of an object does nothing but to fill its own fields. */
     boolean only(NewClassTree made) {
         JavaMethod constructor = services.program().method(services.attribution().element(made));
+        JavaClass known = services.program().find(services.attribution().type(made));
         return made.getClassBody() == null && (constructor != null ? only(constructor)
-            : services.program().find(services.attribution().type(made)) == null && Retries.onlyComputes(
+            : known != null ? known.symbol().getKind() == ElementKind.RECORD : Retries.onlyComputes(
                 services.program().library().choose(services.attribution().type(made), "new")));
     }
 

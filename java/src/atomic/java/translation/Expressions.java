@@ -186,7 +186,8 @@ final class Expressions extends SimpleTreeVisitor<Value, Void> {
         Value array = value(tree.getExpression());
         value(tree.getIndex());
         new Contents(services, body).element(array, false, tree);
-        return Value.OPAQUE;
+        VariableElement inner = services.ownership().inner(tree);
+        return inner == null ? Value.OPAQUE : accesses.confined(inner, services.attribution().start(tree));
     }
 
     @Override

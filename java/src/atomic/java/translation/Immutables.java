@@ -86,13 +86,21 @@ final class Immutables {
             given.put(field, true);
             List<ExpressionTree> all = services.program().library().hasContents(field.asType())
                 ? services.ownership().brought().makings().given(field) : null;
-            known = all != null && !all.isEmpty() && all.stream().allMatch(each -> isMade(each, 0));
+            known = all != null && !all.isEmpty() && (all.stream().allMatch(each -> isMade(each, 0))
+                || services.ownership().unchangedParts().is(field) && all.stream().allMatch(each -> isMade(each, 0)
+                    || services.ownership().unchangedParts().isHandedOver(each)));
             if (!known) {
                 given.values().removeIf(each -> each);
             }
             given.put(field, known);
         }
         return known;
+    }
+
+    /** Whether a field's collection may be changed, and is only told not to be: each is made for the object that is made of it. */
+    boolean isLent(VariableElement field) {
+        List<ExpressionTree> all = isGiven(field) ? services.ownership().brought().makings().given(field) : null;
+        return all != null && !all.stream().allMatch(each -> isMade(each, 0));
     }
 
     /** A local that is only ever given what such references hold. */

@@ -297,6 +297,11 @@ final class LibraryCalls {
         Choice choice = called.choice();
         if (choice.makes() != null) {
             return !called.shown().endsWith(".clone") || isMadeNew(called) ? new Value.Fresh(null) : Value.OPAQUE;
+        } else if (services.ownership().isTakenOut(called.at())) {
+            return new Value.Fresh(null);
+        } else if (services.ownership().inner(called.at()) != null) {
+            return new Accesses(services, body).confined(services.ownership().inner(called.at()),
+                services.attribution().start(called.at()));
         } else if (called.at() instanceof MethodInvocationTree call && services.immutable(call) != null) {
             return services.fields().unchanging(services.immutable(call));
         } else if (immutable(called) != null && SHOWING.contains(name(called))) {

@@ -1,41 +1,33 @@
 package atomic.java.translation;
 
-import atomic.java.library.Choice;
-import atomic.java.ownership.Ownership;
-import atomic.java.ownership.Uses;
+import atomic.java.ownership.InnerThings;
+import atomic.java.places.Notes;
+import atomic.java.program.JavaClass;
 import atomic.java.program.JavaMethod;
+import atomic.java.skeleton.Field;
 import atomic.java.skeleton.Method;
 import atomic.java.skeleton.Part;
 import atomic.java.skeleton.Value;
-import com.sun.source.tree.ConditionalExpressionTree;
 import com.sun.source.tree.ExpressionTree;
-import com.sun.source.tree.LambdaExpressionTree;
-import com.sun.source.tree.MemberReferenceTree;
-import com.sun.source.tree.MemberSelectTree;
-import com.sun.source.tree.MethodInvocationTree;
-import com.sun.source.tree.MethodTree;
-import com.sun.source.tree.ReturnTree;
 import com.sun.source.tree.Tree;
-import com.sun.source.util.TreeScanner;
+import java.util.Collection;
 import java.util.HashMap;
 import java.util.HashSet;
-import java.util.LinkedHashMap;
 import java.util.List;
 import java.util.Map;
 import java.util.Set;
-import javax.lang.model.element.ExecutableElement;
+import javax.lang.model.element.Element;
+import javax.lang.model.element.ElementKind;
 import javax.lang.model.element.VariableElement;
-import javax.lang.model.type.DeclaredType;
 import javax.lang.model.type.TypeMirror;
 
 /**
- * Collections and arrays within a collection of a field, such as the lists in a map of lists. A method that is asked to be
- * atomic and gives its caller such a one, or what shows it, is refused where some code of its file changes one of that type:
- * who has it looks at it later, step by step and without a lock.
+ * Collections and arrays within a collection of a field, such as the lists in a map of lists. A method that lets such a one out, or
+ * what shows or holds it, is refused where some code here changes it: who has it looks at it later, step by step and without
+ * a lock. Of an object of the sources that gets out so {@link LiveObjects} is told.
  */
 final class LiveContents {
     private final Services services;
-    private final Map<ExpressionTree, Method> given = new LinkedHashMap<>();
     /** The types of what is changed in each file. */
     private final Map<String, Set<TypeMirror>> changed = new HashMap<>();
 
@@ -51,92 +43,64 @@ final class LiveContents {
         }
     }
 
-    /** Notes what a method gives back. */
-    void give(ReturnTree tree, Body body) {
-        ExpressionTree found = tree.getExpression() == null ? null : shown(tree.getExpression(), 0);
-        ExpressionTree shown = found == null && tree.getExpression() != null && isShallow(tree.getExpression())
-            ? tree.getExpression() : found;
-        JavaMethod method = services.program().around(tree) instanceof MethodTree around
-            ? services.program().method(services.attribution().element(around)) : null;
-        if (shown != null && method != null && services.methods().promises(method)) {
-            Method way = given.computeIfAbsent(shown, key -> services.blank("whoever is given " + key, Method.Doubt.ANY));
-            body.emit(new Part.Call(new Value.Opaque(services.program().helpers()), way, List.of(),
-                services.attribution().name(tree.getExpression())));
-        }
-    }
-
-    /** The call that finds such an object, where an expression gives it or shows it; else null. */
-    private ExpressionTree shown(ExpressionTree tree, int names) {
-        ExpressionTree bare = Uses.bare(tree);
-        if (bare instanceof ConditionalExpressionTree either) {
-            ExpressionTree left = shown(either.getTrueExpression(), names);
-            return left != null ? left : shown(either.getFalseExpression(), names);
-        } else if (services.attribution().element(bare) instanceof VariableElement local && !local.getKind().isField()) {
-            return names > 2 ? null : services.uses().assignments(local).stream().filter(each -> each.value() != null)
-                .map(each -> shown(each.value(), names + 1)).filter(each -> each != null).findFirst().orElse(null);
-        }
-        if (!(bare instanceof MethodInvocationTree call)
-                || !(services.attribution().element(call) instanceof ExecutableElement symbol)
-                || services.program().method(symbol) != null) {
-            return null;
-        }
-        Choice choice = services.ownership().escape().choose(call.getMethodSelect(), symbol);
-        if (choice.kind() == Choice.Kind.VIEW || symbol.getEnclosingElement().toString().equals("java.util.Optional")) {
-            return call.getArguments().stream().map(each -> shown(each, names)).filter(each -> each != null).findFirst()
-                .orElse(call.getMethodSelect() instanceof MemberSelectTree select ? shown(select.getExpression(), names) : null);
-        }
-        return isFound(call) ? call : null;
-    }
-
-    /** Whether an expression copies a field's collection of collections, and none of these: no function makes others of them. */
-    private boolean isShallow(ExpressionTree tree) {
-        boolean[] copies = new boolean[2];
-        if (inner(services.attribution().type(tree)) != null) {
-            new TreeScanner<Void, Void>() {
-                @Override
-                public Void scan(Tree each, Void nothing) {
-                    copies[0] |= each instanceof ExpressionTree && services.attribution().element(each) instanceof VariableElement
-                        field && field.getKind().isField() && services.program().find(field.getEnclosingElement()) != null
-                        && inner(field.asType()) != null;
-                    copies[1] |= each instanceof LambdaExpressionTree || each instanceof MemberReferenceTree;
-                    return super.scan(each, nothing);
-                }
-            }.scan(tree, null);
-        }
-        return copies[0] && !copies[1];
-    }
-
-    /** The collections or arrays that a type says are within its objects; else null. */
-    private TypeMirror inner(TypeMirror type) {
-        return type instanceof DeclaredType declared ? declared.getTypeArguments().stream().map(TypeMirror.class::cast)
-            .filter(services.program().library()::hasContents).findFirst().orElse(null) : null;
-    }
-
-    /** Whether a call on a field's collection gives a collection or an array that isn't a new one and may change. */
-    private boolean isFound(MethodInvocationTree call) {
-        TypeMirror type = services.attribution().type(call);
-        return type != null && services.program().library().hasContents(type)
-            && call.getMethodSelect() instanceof MemberSelectTree select
-            && services.attribution().element(Uses.bare(select.getExpression())) instanceof VariableElement field
-            && field.getKind().isField() && services.program().find(field.getEnclosingElement()) != null
-            && services.program().library().hasContents(field.asType())
-            && !Ownership.isNew(services.ownership().fresh(call)) && services.immutable(call) == null;
-    }
-
     /** Where all methods are written: what nobody changes may be given to anybody. */
-    void finish() {
-        given.forEach((shown, way) -> {
-            TypeMirror whole = services.attribution().type(shown);
-            TypeMirror type = isShallow(shown) ? inner(whole) : whole;
-            if (changed.getOrDefault(file(shown), Set.of()).stream().anyMatch(each -> mayBe(each, type))) {
-                services.fill(way, true);
-                services.hint(shown, "object of others: what is found here gets out, so that others may touch it without any"
-                    + " lock");
+    void finish(Collection<Method> all) {
+        for (InnerThings.Ways each : new InnerThings(services.program(), services.ownership()).find(services.methods()::promises)) {
+            JavaClass known = services.program().find(each.type());
+            each.outs().forEach((at, method) -> {
+                if (known != null && method != null) {
+                    services.liveObjects().give(known, method, at);
+                } else if (known == null && (each.changed() || isChanged(at, each.type()))) {
+                    refuse(at, method, all);
+                    assume(each.field(), at, all);
+                }
+            });
+        }
+        parts(all);
+    }
+
+    /** What an object stands for as a whole is changed by nobody: who is given a part of it as it is may do so. */
+    private void parts(Collection<Method> all) {
+        services.program().classes().forEach(each -> {
+            for (Element member : each.symbol().getEnclosedElements()) {
+                if (member instanceof VariableElement field && field.getKind() == ElementKind.FIELD
+                        && services.immutables().isLent(field)) {
+                    services.ownership().unchangedParts().outs(field).forEach(at ->
+                        refuse(at, services.ownership().unchangedParts().home(at), all));
+                }
             }
         });
     }
 
-    private String file(ExpressionTree tree) {
+    /** All others that touch what the field holds are judged as if nobody touched it in that way. */
+    private void assume(VariableElement field, Tree at, Collection<Method> all) {
+        if (services.fields().owns(field)) {
+            Field contents = services.fields().contents(field).field();
+            all.stream().filter(each -> touches(each.body(), contents)).forEach(each ->
+                services.program().notes().tell(Notes.Kind.ASSUMED, services.methods().origin(each), services.attribution().name(at),
+                    "nobody touches what is within " + field.getSimpleName() + " by way of what gets out here"));
+        }
+    }
+
+    private static boolean touches(Part part, Field contents) {
+        return part instanceof Part.Access access && access.field() == contents
+            || part.parts().stream().anyMatch(each -> touches(each, contents));
+    }
+
+    private void refuse(Tree at, JavaMethod method, Collection<Method> all) {
+        Method way = services.blank("whoever is given what is found here", Method.Doubt.ANY);
+        services.fill(way, true);
+        services.hint(at, "object of others: what is found here gets out, so that others may touch it without any lock");
+        all.stream().filter(each -> services.methods().origin(each) == method).forEach(each ->
+            each.body(Part.sequence(List.of(each.body(), new Part.Call(new Value.Opaque(services.program().helpers()), way,
+                List.of(), services.attribution().name(at))))));
+    }
+
+    private boolean isChanged(Tree at, TypeMirror type) {
+        return changed.getOrDefault(file(at), Set.of()).stream().anyMatch(each -> mayBe(each, type));
+    }
+
+    private String file(Tree tree) {
         return services.attribution().place(tree).file();
     }
 

@@ -46,6 +46,11 @@ final class LiveObjects {
         }
     }
 
+    /** Notes that a method lets out an object of this class, which is found within what a field holds. */
+    void give(JavaClass type, JavaMethod method, Tree at) {
+        given.computeIfAbsent(type, key -> new LinkedHashMap<>()).putIfAbsent(method, at);
+    }
+
     /** Whether it is the object itself or an argument, which the caller has already. */
     private static boolean isOfCaller(Value object) {
         return object.path() != null && object.path().fields().isEmpty() && object.path().root().kind() != Path.Kind.LOCAL;

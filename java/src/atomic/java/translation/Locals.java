@@ -99,6 +99,9 @@ final class Locals {
         if (unchanging != null) {
             return services.fields().unchanging(unchanging);
         }
+        if (services.ownership().hasTakenOut(variable)) {
+            return new Value.Fresh(null);
+        }
         JavaClass node = services.program().find(variable.asType());
         JavaClass container = services.nodes().container(node);
         if (container != null) {

@@ -128,7 +128,7 @@ public final class Methods {
 
     /** Whether a Java method says that it is atomic. */
     public boolean promises(JavaMethod method) {
-        return method != null && (promises.isAtomic(method) || !promises.apart(method).isEmpty());
+        return promises.isAsked(method);
     }
 
     /** Whether some field says which lock guards it. */
@@ -231,7 +231,7 @@ public final class Methods {
         boolean bySuper = key.self() != method.owner() && !method.owner().isInterface() && !inherited;
         boolean known = !method.isOpen() || method.isForHeirs() && !services.program().options().strict();
         made.closed(known || key.fresh() || container != null || bySuper);
-        made.wrapped(services.ownership().isWrapped(method.owner()));
+        made.wrapped(services.ownership().wrapped().is(method.owner()));
         if (own && promises.apart(method).isEmpty() || inherited || method.isConstructor() || method.readsNewObject()) {
             judged.put(made, method);
         }

@@ -33,6 +33,11 @@ final class Promises {
             isAtomic(each) || each.isAbstract() && isPublic(each) && !each.owner().isHiddenBase());
     }
 
+    /** Whether a method, or an inherited one as that of some class, promises it. */
+    boolean isAsked(JavaMethod method) {
+        return method != null && (isAtomic(method) || !apart(method).isEmpty());
+    }
+
     /** The classes as whose own an inherited method promises it, each of which has it in a way of its own. */
     List<JavaClass> apart(JavaMethod method) {
         return apart.computeIfAbsent(method, key -> isOpen(key) && key.owner().isHiddenBase() && !isAtomic(key)

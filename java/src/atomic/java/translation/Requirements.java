@@ -39,7 +39,7 @@ final class Requirements {
     void addWrappers(JavaMethod method, Body body) {
         if (method.isConstructor() || method.isStatic() || method.isPrivate() || body.isFresh()
                 || UNLOCKED.contains(method.symbol().getSimpleName().toString())
-                || !services.ownership().isWrappedByOuter(method.owner()) || services.families()
+                || !services.ownership().wrapped().isByOuter(method.owner()) || services.families()
                     .below(method.owner()).stream().anyMatch(each -> services.families().above(each) == method.owner())) {
             return;
         }

@@ -55,9 +55,9 @@ final class Services {
         this.methods = methods;
         uses = new Uses(program.attribution());
         ownership = new Ownership(program, uses);
-        ownership.confine();
-        nodes = new Nodes(program, ownership);
         families = new Families(program);
+        ownership.confine(new Promises(program, families)::isAsked);
+        nodes = new Nodes(program, ownership);
         fields = new Fields(program, families, uses, ownership, nodes, exits::areTold);
         functions = new Functions(this);
         computing = new Computing(this);
@@ -148,8 +148,8 @@ final class Services {
     void finish(Collection<Method> all) {
         functions.unknownCode().settle();
         exits.finish(all);
+        liveContents.finish(all);
         liveObjects.finish(all);
-        liveContents.finish();
     }
 
     /** Library objects that keep one of the sources. */

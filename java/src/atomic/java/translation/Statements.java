@@ -182,7 +182,6 @@ final class Statements extends SimpleTreeVisitor<Void, Void> {
     @Override
     public Void visitReturn(ReturnTree tree, Void nothing) {
         services.liveObjects().give(expressions.value(tree.getExpression()), tree);
-        services.liveContents().give(tree, body);
         return null;
     }
 

@@ -88,7 +88,7 @@ record Touches(Services services) {
         }
         boolean adds = ADDING.contains(name) || adds(name, call) || raises(name, call);
         return FINDING.contains(name) ? Touch.Kind.FIND : adds ? Touch.Kind.ADD
-            : UPDATING.contains(name) ? Touch.Kind.UPDATE
+            : addsAlone(name, call) ? Touch.Kind.PUT : UPDATING.contains(name) ? Touch.Kind.UPDATE
             : COMPARING.contains(name) || Attempt.isOfKey(call) ? Touch.Kind.COMPARE : Touch.Kind.CHANGE;
     }
 
@@ -101,6 +101,11 @@ record Touches(Services services) {
     private boolean adds(String name, MethodInvocationTree call) {
         return name.equals("put") && call.getMethodSelect() instanceof MemberSelectTree select
             && new Additions(services).adds(call, Set.of(select.getExpression().toString()));
+    }
+
+    private boolean addsAlone(String name, MethodInvocationTree call) {
+        return name.equals("put") && call.getMethodSelect() instanceof MemberSelectTree select
+            && new Additions(services).addsAlone(call, Set.of(select.getExpression().toString()));
     }
 
     /** The field whose object an expression gives, or a part of that; null where this isn't known. */
