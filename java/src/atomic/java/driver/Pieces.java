@@ -90,6 +90,8 @@ final class Pieces {
     /**
      * The next piece. Where the methods that one calls are too many bytes for one text, {@code cut} is given these, and how
      * many are too many, and makes something smaller if it can; where they name too many classes' statics, it is given that one.
+     * A method that stands in a piece, since another one calls it, stands there with all that it calls, so no further piece
+     * has to have it.
      */
     Set<Method> next(BiPredicate<Set<Method>, Integer> cut) {
         Piece piece = new Piece();
@@ -105,6 +107,7 @@ final class Pieces {
                 waiting.remove();
             }
         }
+        waiting.removeIf(piece.methods::contains);
         return piece.methods;
     }
 
