@@ -111,7 +111,7 @@ public final class Javac {
 
     private void refuseErrors(DiagnosticCollector<JavaFileObject> told, JavacTask task,
             Map<CompilationUnitTree, SourceText> sources) {
-        if (told.getDiagnostics().isEmpty()) {
+        if (told.getDiagnostics().stream().noneMatch(each -> each.getKind() == Diagnostic.Kind.ERROR)) {
             return;
         }
         Map<JavaFileObject, SourceText> texts = new HashMap<>();
