@@ -11,8 +11,8 @@ reasons      each reason for which an error is told as certain, and what looks l
 summaries    sources whose first line has the line of figures that comes (java/tests/summaries)
 pieces       a source whose skeleton is too long for one text
 own          the sources of atomic-java itself: no method is past a limit of the checker
-inputs       no source, or no good one, answers that can't be written, Javas that won't do, and signals (java_inputs.py):
-             one clear line, its status
+inputs       no source, or no good one, answers that can't be written, Javas that won't do, and signals
+             (java_inputs.py): one clear line, its status
 growth       families of sources (java_families.py), each at a size and at four times that: the time grows with the size
 
 The exit status is 0 where all hold. Without a name all are tried.

@@ -208,8 +208,8 @@ def result_of(group: list[Fact], texts: Texts) -> Result:
 
 
 def rule_of(head: Fact, notes: list[Fact]) -> str:
-    """The rule of an explanation: the code of its first line, or of what lacks a lock. Where the lines have no codes, it
-    is what the notes say; and where these say nothing, the source is no program."""
+    """The rule of an explanation: the code of its first line, or of what lacks a lock. Where the lines have no codes,
+    it is what the notes say; and where these say nothing, the source is no program."""
     code = notes[0].code if head.code == "lock-error" and notes else head.code
     told = "\n".join(note.text for note in notes)
     return code if code in IDS else next((rule for rule, words in WORDS if words.match(told)), "not-well-formed")
