@@ -2,7 +2,9 @@
 line wherever it isn't the sources that are judged."""
 import os
 import re
+import signal
 import subprocess
+import time
 from dataclasses import dataclass
 from pathlib import Path
 
@@ -11,11 +13,19 @@ TOO_LARGE = "the sources are too large: memory ran out"
 FAULT = re.compile(r"^\s+at |Exception in thread", re.MULTILINE)
 DEEP = 2_000_000
 NO_CHECKER = "/bin/false"
+# a Java that is too old, and one without a compiler
+OLD_JAVA = "#!/bin/sh\nexit 1\n"
+BARE_JAVA = '#!/bin/sh\nunset JAVA_HOME\nexec java --limit-modules java.base "$@"\n'
+# a checker that says when it begins, and doesn't answer
+SLOW_CHECKER = "#!/bin/sh\necho $$ >> asked\nexec sleep 100\n"
+SIGNALS = {signal.SIGINT: 130, signal.SIGTERM: 143}
+MOST_SECONDS = 120.0
 
 
 @dataclass(frozen=True)
 class Input:
-    """Words of a command line, and what comes of them: a status, and what the first line is, if that is told."""
+    """Words of a command line, and what comes of them: a status, and what the first line is, if that is told. `home` is
+    where Java is said to be, `launcher` another name of the program."""
 
     name: str
     words: tuple[str, ...]
@@ -23,6 +33,8 @@ class Input:
     first: str = ""
     to: str = ""
     checker: str = ""
+    home: str = ""
+    launcher: str = ""
 
 
 INPUTS = (
@@ -68,6 +80,13 @@ INPUTS = (
     Input("a skeleton that can't be written", ("--emit", "/dev/full", "good.java"), 7, "cannot write /dev/full"),
     Input("an answer that can't be written", ("--public", "open.java"), 7, to="/dev/full"),
     Input("a checker that gives no answer", ("good.java",), 12, ".* gives no answer, but status 1", checker=NO_CHECKER),
+    Input("a checker that isn't there", ("good.java",), 12, "cannot find atomic_why: .*", checker="/nowhere"),
+    Input("a skeleton in a folder that isn't there", ("--emit", "no/where", "good.java"), 7, "cannot write no/where"),
+    Input("logs that can't be written", ("--log", "/dev/full", "good.java"), 7, "cannot write into /dev/full.*"),
+    Input("a launcher by a link with blanks", ("good.java",), 0, launcher="a link/to it"),
+    Input("no Java where JAVA_HOME says", ("good.java",), 0, home="nowhere"),
+    Input("a Java that is too old", ("good.java",), 12, home="old"),
+    Input("a Java without a compiler", ("good.java",), 12, "atomic-java wants a JDK, .*", home="bare"),
 )
 
 
@@ -96,12 +115,17 @@ def write(folder: Path) -> None:
         "1:1: error: x/A.java": b"class A { volatile int v; /* atomic */ void f() { v++; } }\n",
         "module/module-info.java": b"module m { }\n",
         "round/B.java": GOOD.replace("class A", "class B").encode(),
+        "old/release": b'JAVA_VERSION="11.0.2"\n',
         "deep.java": b"class A { int f() { return " + b"(" * DEEP + b"1" + b")" * DEEP + b"; } }\n",
     }
     for name, text in texts.items():
         path = folder / name
         path.parent.mkdir(exist_ok=True)
         path.write_bytes(text)
+    for name, script in {"old/bin/java": OLD_JAVA, "bare/bin/java": BARE_JAVA, "slow": SLOW_CHECKER}.items():
+        (folder / name).parent.mkdir(parents=True, exist_ok=True)
+        (folder / name).write_text(script, encoding="utf-8")
+        (folder / name).chmod(0o755)
     links = {"link.java": "good.java", "round/again": ".", "there": "round", "other.java": "text.txt"}
     for link, target in links.items():
         os.symlink(target, folder / link)
@@ -109,7 +133,9 @@ def write(folder: Path) -> None:
 
 def wrong(given: Input, folder: Path, program: Path) -> str:
     """What is wrong with the answer to an input; nothing where it is right."""
-    environment = dict(os.environ, **({"ATOMIC_WHY": given.checker} if given.checker else {}))
+    named = {"ATOMIC_WHY": given.checker, "JAVA_HOME": str(folder / given.home) if given.home else ""}
+    environment = dict(os.environ, **{name: value for name, value in named.items() if value})
+    program = link(folder / given.launcher, program) if given.launcher else program
     with open(folder / given.to if given.to else os.devnull, "wb") as to:
         done = subprocess.run(
             [str(program), *given.words], cwd=folder, env=environment, check=False, stderr=subprocess.PIPE,
@@ -130,9 +156,45 @@ def wrong(given: Input, folder: Path, program: Path) -> str:
     return ""
 
 
+def link(name: Path, program: Path) -> Path:
+    """A link to the program."""
+    name.parent.mkdir(exist_ok=True)
+    name.symlink_to(program.resolve())
+    return name
+
+
+def is_there(process: str) -> bool:
+    """Whether a process still runs."""
+    try:
+        os.kill(int(process), 0)
+    except ProcessLookupError:
+        return False
+    return True
+
+
+def stopped(number: signal.Signals, folder: Path, program: Path) -> str:
+    """What is wrong where a signal stops a run that waits for its checker: it ends, and so does the checker."""
+    asked, before = folder / "asked", set(os.listdir(folder))
+    environment = dict(os.environ, ATOMIC_WHY=str(folder / "slow"))
+    with subprocess.Popen([str(program), "good.java"], cwd=folder, env=environment, stdout=subprocess.DEVNULL) as run:
+        end = time.monotonic() + MOST_SECONDS
+        while not (asked.exists() and asked.read_text()) and time.monotonic() < end:
+            time.sleep(0.05)
+        run.send_signal(number)
+        status = run.wait(MOST_SECONDS)
+    processes = asked.read_text().split()
+    asked.unlink()
+    while any(map(is_there, processes)) and time.monotonic() < end:
+        time.sleep(0.05)
+    files, still = sorted(set(os.listdir(folder)) - before), [each for each in processes if is_there(each)]
+    good = status == SIGNALS[number] and processes and not files and not still
+    return "" if good else f"status {status}, files left: {files}, processes: {still}"
+
+
 def all_wrong(folder: Path, program: Path) -> list[str]:
     """What is wrong with each of the answers that aren't right."""
     folder.mkdir(exist_ok=True)
     write(folder)
     told = {given.name: wrong(given, folder, program) for given in INPUTS}
+    told |= {f"stopped by {each.name}": stopped(each, folder, program) for each in SIGNALS}
     return [f"{name}: {text}" for name, text in told.items() if text]

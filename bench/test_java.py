@@ -11,7 +11,8 @@ reasons      each reason for which an error is told as certain, and what looks l
 summaries    sources whose first line has the line of figures that comes (java/tests/summaries)
 pieces       a source whose skeleton is too long for one text
 own          the sources of atomic-java itself: no method is past a limit of the checker
-inputs       no source, or no good one, and answers that can't be written (java_inputs.py): one clear line, its status
+inputs       no source, or no good one, answers that can't be written, Javas that won't do, and signals
+             (java_inputs.py): one clear line, its status
 growth       families of sources (java_families.py), each at a size and at four times that: the time grows with the size
 
 The exit status is 0 where all hold. Without a name all are tried.
@@ -25,7 +26,7 @@ from pathlib import Path
 from typing import Optional
 
 from java_families import FAMILIES, seconds
-from java_inputs import INPUTS, all_wrong
+from java_inputs import INPUTS, SIGNALS, all_wrong
 from java_mutants import Mutant, mutants
 from java_sources import PROGRAM, TOP, Answer, Line, batches, java_version, marks, run, write_into_package
 
@@ -177,7 +178,7 @@ class Tester:
 
     def inputs(self) -> None:
         """What isn't a good source, or an answer that can't be written, has its status and one clear line."""
-        self.count += len(INPUTS)
+        self.count += len(INPUTS) + len(SIGNALS)
         for line in all_wrong(self.folder / "inputs", self.program):
             self.tell(line)
 

@@ -98,6 +98,21 @@ RULES = [
 IDS = [rule.name for rule in RULES]
 # readers hold a line's number in 32 bits
 MOST_LINES = 2**31 - 1
+# how the notes of a rule begin: lines of `atomic-java` have no codes
+WORDS = tuple(
+    (rule, re.compile(words))
+    for rule, words in (
+        ("guard-unnamed", r".* is guarded (for writing )?by a lock that has no name here"),
+        ("guard-not-held", r".* is guarded (for writing )?by "),
+        ("required-unnamed", r"calls .*, which requires .*: that has no name here"),
+        ("required-not-held", r"calls .*, which requires "),
+        ("calls-an-error", r"calls (.*, which|a method that) is an error itself"),
+        ("step-in-a-loop", r"(atomic|compound) step: .*\nthis loop makes it each time round"),
+        ("compound-call", r"compound step: .*\ninside it another thread may come in"),
+        ("two-steps", r"(atomic|compound) step: "),
+        ("overriding-method", r".* overrides it, and is "),
+    )
+)
 
 
 class Texts:
@@ -193,9 +208,11 @@ def result_of(group: list[Fact], texts: Texts) -> Result:
 
 
 def rule_of(head: Fact, notes: list[Fact]) -> str:
-    """The rule of an explanation: the code of its first line, or of what lacks a lock; without one it is no program."""
+    """The rule of an explanation: the code of its first line, or of what lacks a lock. Where the lines have no codes,
+    it is what the notes say; and where these say nothing, the source is no program."""
     code = notes[0].code if head.code == "lock-error" and notes else head.code
-    return code if code in IDS else "not-well-formed"
+    told = "\n".join(note.text for note in notes)
+    return code if code in IDS else next((rule for rule, words in WORDS if words.match(told)), "not-well-formed")
 
 
 # Where results come from.

@@ -56,6 +56,25 @@ class Reports(InFolder):
             result = results(self.run_tool("atomic-sarif", "-", given=given).text)[0]
             self.assertEqual((rule, "x: y"), (result["ruleId"], result["message"]["text"]))
 
+    def test_words_name_the_rule_where_there_is_no_code(self) -> None:
+        rows = {
+            "this.a is guarded by a lock that has no name here, since x isn't final; held: nothing": "guard-unnamed",
+            "this.a is guarded for writing by this, which isn't held here; held: nothing": "guard-not-held",
+            "calls A.f, which requires this: that has no name here, since x isn't final": "required-unnamed",
+            "calls A.f, which requires this: here that is this, which isn't held here": "required-not-held",
+            "calls a method that is an error itself": "calls-an-error",
+            "calls A.f, which is an error itself": "calls-an-error",
+            "atomic step: prints\nf.java:1:2: note: this loop makes it each time round, and between": "step-in-a-loop",
+            "compound step: calls A.f\nf.java:1:2: note: inside it another thread may come in": "compound-call",
+            "compound step: calls A.f\nf.java:1:2: note: a second one: prints": "two-steps",
+            "B.f overrides it, and is cmpd": "overriding-method",
+            "what else": "not-well-formed",
+        }
+        for told, rule in rows.items():
+            given = f"f.java:1:2: error: A.f is declared atomic, found cmpd\nf.java:1:2: note: {told}\n".encode()
+            result = results(self.run_tool("atomic-sarif", "-", given=given).text)[0]
+            self.assertEqual(rule, result["ruleId"], told)
+
     def test_a_warning_is_a_result_that_refuses_nothing(self) -> None:
         given = b"f.java:1:2: warning: A.low is written, and nothing guards it [unguarded-field]\n"
         status, text, _ = self.run_tool("atomic-sarif", "-", given=given)

@@ -55,6 +55,9 @@ public final class Main {
                 : "atomic-java " + (version == null ? "of a checkout" : version)).append('\n');
             return 0;
         }
+        if (ModuleLayer.boot().findModule("jdk.compiler").isEmpty()) {
+            throw new Refusal(Options.NO_CHECKER, "atomic-java wants a JDK, version 17 or later: this Java has no javac");
+        }
         return new Run(options).judge(answer);
     }
 

@@ -49,9 +49,6 @@ public final class Javac {
     /** The attributed sources, or a refusal with javac's own errors. */
     public Attribution attribute() {
         JavaCompiler compiler = ToolProvider.getSystemJavaCompiler();
-        if (compiler == null) {
-            throw new Refusal(Options.NOT_JAVA, "atomic-java wants a JDK, version 17 or later: this Java has no javac");
-        }
         DiagnosticCollector<JavaFileObject> told = new DiagnosticCollector<>();
         StandardJavaFileManager manager = compiler.getStandardFileManager(told, null, StandardCharsets.UTF_8);
         Map<Path, String> names = new SourceFiles(options.files()).names();
@@ -114,7 +111,7 @@ public final class Javac {
 
     private void refuseErrors(DiagnosticCollector<JavaFileObject> told, JavacTask task,
             Map<CompilationUnitTree, SourceText> sources) {
-        if (told.getDiagnostics().isEmpty()) {
+        if (told.getDiagnostics().stream().noneMatch(each -> each.getKind() == Diagnostic.Kind.ERROR)) {
             return;
         }
         Map<JavaFileObject, SourceText> texts = new HashMap<>();

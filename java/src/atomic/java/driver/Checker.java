@@ -11,6 +11,7 @@ import java.nio.file.Path;
 import java.util.ArrayList;
 import java.util.List;
 import java.util.Set;
+import java.util.concurrent.ConcurrentHashMap;
 import java.util.concurrent.ExecutionException;
 import java.util.concurrent.ExecutorService;
 import java.util.concurrent.Executors;
@@ -38,6 +39,12 @@ public final class Checker implements AutoCloseable {
 
     private final Path program = find();
     private final ExecutorService runs = Executors.newFixedThreadPool(Runtime.getRuntime().availableProcessors());
+    private final Set<Process> running = ConcurrentHashMap.newKeySet();
+
+    /** Where this program is stopped by a signal, it leaves no run behind. */
+    public Checker() {
+        Runtime.getRuntime().addShutdownHook(new Thread(this::stop));
+    }
 
     /** A text that is being judged. */
     public final class Question {
@@ -95,12 +102,14 @@ public final class Checker implements AutoCloseable {
         words.addAll(List.of(options));
         words.add(INPUT);
         Process process = new ProcessBuilder(words).redirectError(ProcessBuilder.Redirect.INHERIT).start();
+        running.add(process);
         hand(text, process);
         String told = new String(process.getInputStream().readAllBytes(), StandardCharsets.UTF_8);
         String front = INPUT + ":";
         List<String> lines = told.lines().filter(kept)
             .map(line -> line.startsWith(front) ? line.substring(front.length()) : line).toList();
         int status = process.waitFor();
+        running.remove(process);
         if (status == Options.NO_MEMORY) {
             throw new Refusal(status, "the sources are too large: memory ran out in " + program);
         } else if (!ANSWERS.contains(status) || status == Options.NOT_JAVA && told.isEmpty()) {
@@ -118,10 +127,15 @@ public final class Checker implements AutoCloseable {
         }
     }
 
-    /** Begins no further run, and waits for those that have begun. */
+    private void stop() {
+        runs.shutdownNow();
+        running.forEach(Process::destroy);
+    }
+
+    /** Begins no further run, and ends those that have begun: nobody wants their answers any more. */
     @Override
     public void close() {
-        runs.shutdownNow();
+        stop();
         try {
             runs.awaitTermination(1, TimeUnit.MINUTES);
         } catch (InterruptedException fault) {

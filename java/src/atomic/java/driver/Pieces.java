@@ -72,7 +72,8 @@ final class Pieces {
         frame = text(writer(), Set.of()).length();
         Set<Method> whole = new LinkedHashSet<>();
         roots.forEach(root -> reach(root, Set.of(), whole));
-        if (aliases == null && new Piece().excess(whole) > 0) {
+        Piece empty = new Piece();
+        if (aliases == null && empty.excess(new Growth(empty, whole)) > 0) {
             aliases = new Aliases();
             measures.clear();
             sizes.clear();
@@ -90,21 +91,25 @@ final class Pieces {
     /**
      * The next piece. Where the methods that one calls are too many bytes for one text, {@code cut} is given these, and how
      * many are too many, and makes something smaller if it can; where they name too many classes' statics, it is given that one.
+     * A method that stands in a piece, since another one calls it, stands there with all that it calls, so no further piece
+     * has to have it.
      */
     Set<Method> next(BiPredicate<Set<Method>, Integer> cut) {
         Piece piece = new Piece();
         while (!waiting.isEmpty()) {
-            Set<Method> more = new LinkedHashSet<>();
+            Set<Method> reached = new LinkedHashSet<>();
             Method root = waiting.peek();
-            reach(root, piece.methods, more);
+            reach(root, piece.methods, reached);
+            Growth more = new Growth(piece, reached);
             int excess = piece.excess(more);
             if (excess > 0 && !piece.methods.isEmpty()) {
                 break;
-            } else if (excess <= 0 || !cut.test(piece.crowds(more) ? Set.of(root) : more, excess)) {
+            } else if (excess <= 0 || !cut.test(piece.crowds(more) ? Set.of(root) : reached, excess)) {
                 piece.add(more);
                 waiting.remove();
             }
         }
+        waiting.removeIf(piece.methods::contains);
         return piece.methods;
     }
 
@@ -220,44 +225,50 @@ final class Pieces {
         private int statics;
 
         /** How many bytes there are too many with further methods; at least one where too many classes' statics are named. */
-        int excess(Set<Method> more) {
-            int bytes = size + size(more, new HashSet<>()) - Checker.MOST_BYTES;
+        int excess(Growth more) {
+            int bytes = size + more.bytes - Checker.MOST_BYTES;
             return crowds(more) ? Math.max(1, bytes) : bytes;
         }
 
         /** Whether further methods name more classes' statics than the object that leads to these may have in one text. */
-        boolean crowds(Set<Method> more) {
-            return crowded && statics + further(more, new HashSet<>()) > Limits.MOST_FINAL;
+        boolean crowds(Growth more) {
+            return crowded && statics + more.statics > Limits.MOST_FINAL;
         }
 
-        private int further(Set<Method> more, Set<Object> further) {
-            return (int) more.stream().flatMap(each -> further(measure(each).frame().fields(), further))
-                .filter(each -> each.owner() == program.statics()).count();
+        void add(Growth more) {
+            statics += more.statics;
+            size += more.bytes;
+            methods.addAll(more.methods);
+            had.addAll(more.further);
+        }
+    }
+
+    /** What further methods bring to a text: their bytes, and those of the lines, classes and fields that it hasn't yet. */
+    private final class Growth {
+        private final Set<Method> methods;
+        private final Set<Object> had;
+        private final Set<Object> further = new HashSet<>();
+        private int bytes;
+        private int statics;
+
+        Growth(Piece piece, Set<Method> methods) {
+            this.methods = methods;
+            had = piece.had;
+            methods.forEach(each -> add(measure(each)));
         }
 
-        void add(Set<Method> more) {
-            Set<Object> further = new HashSet<>();
-            statics += crowded ? further(more, new HashSet<>()) : 0;
-            size += size(more, further);
-            methods.addAll(more);
-            had.addAll(further);
+        private void add(Measure measure) {
+            bytes += measure.bytes();
+            bytes += further(measure.somes()).mapToInt(line -> line.length() + SOME_BYTES).sum();
+            bytes += further(measure.frame().shapes()).mapToInt(shape ->
+                sizes.computeIfAbsent(shape, Pieces.this::length)).sum();
+            further(measure.frame().fields()).forEach(field -> {
+                bytes += length(field);
+                statics += field.owner() == program.statics() ? 1 : 0;
+            });
         }
 
-        /** The bytes of further methods, and of the lines, classes and fields that come with them. */
-        private int size(Set<Method> more, Set<Object> further) {
-            int size = 0;
-            for (Method each : more) {
-                Measure measure = measure(each);
-                size += measure.bytes();
-                size += further(measure.somes(), further).mapToInt(line -> line.length() + SOME_BYTES).sum();
-                size += further(measure.frame().shapes(), further).mapToInt(shape ->
-                    sizes.computeIfAbsent(shape, Pieces.this::length)).sum();
-                size += further(measure.frame().fields(), further).mapToInt(Pieces.this::length).sum();
-            }
-            return size;
-        }
-
-        private <T> Stream<T> further(Collection<T> all, Set<Object> further) {
+        private <T> Stream<T> further(Collection<T> all) {
             return all.stream().filter(each -> !had.contains(each) && further.add(each));
         }
     }

@@ -40,8 +40,8 @@ public final class Options {
         "interrupted by another thread; one that is found error touches a field without its guard, or calls such a one.",
         "",
         "Status 0: accepted; 2: refused; 1: javac finds errors; 6: a file can't be read; 7: the answer can't be written;",
-        "8: memory ran out; 9: faulty words; 10: too many limits of the checker; 12: no atomic_why; 13: a fault of this",
-        "program.");
+        "8: memory ran out; 9: faulty words; 10: too many limits of the checker; 12: no JDK, or no atomic_why; 13: a fault",
+        "of this program.");
 
     private static final Set<String> WITH_VALUE = Set.of("--classpath", "--patch-module", "--library", "--emit",
         "--explain", "--log");

@@ -14,6 +14,7 @@ import java.util.Comparator;
 import java.util.HashMap;
 import java.util.HashSet;
 import java.util.LinkedHashMap;
+import java.util.LinkedHashSet;
 import java.util.List;
 import java.util.Map;
 import java.util.Set;
@@ -47,6 +48,7 @@ public final class Inference {
     /** How often a field is touched, and how often with each lock, named from its object. */
     private static final class Tally {
         private int all;
+        private final Set<Method> methods = new LinkedHashSet<>();
         private final Map<Place, Set<List<Field>>> places = new LinkedHashMap<>();
         private int writes;
         /** The locks at each access of a constructor, whose object others may know by then. */
@@ -98,7 +100,7 @@ public final class Inference {
                 races(field, tally, shown, notes);
             }
             if (charged != null) {
-                mended(field, tally.open(charged), most ? "looks at " : "changes of ", shown, notes);
+                mended(field, charged, most ? "looks at " : "changes of ", shown, notes);
             }
         });
     }
@@ -123,16 +125,11 @@ public final class Inference {
     }
 
     /** What is said of the methods that touch a field rests on what touches it without its lock, which is told as an error. */
-    private void mended(Field field, Place place, String what, Names names, Notes notes) {
-        methods.stream().filter(each -> touches(each.body(), field)).forEach(each ->
-            notes.tell(Notes.Kind.ASSUMED, origin.apply(each), place == null ? field.place() : place,
-                what + names.shown(field.name()) + " without its lock are mended: what is said of other methods rests on"
-                    + " that"));
-    }
-
-    private static boolean touches(Part part, Field field) {
-        return part instanceof Part.Access access && access.field() == field
-            || part.parts().stream().anyMatch(each -> touches(each, field));
+    private void mended(Field field, List<Field> lock, String what, Names names, Notes notes) {
+        Tally tally = tallies.get(field);
+        Place open = tally.open(lock);
+        tally.methods.forEach(each -> notes.tell(Notes.Kind.ASSUMED, origin.apply(each), open == null ? field.place() : open,
+            what + names.shown(field.name()) + " without its lock are mended: what is said of other methods rests on that"));
     }
 
     /** The accesses without the lock that most of them hold. */
@@ -161,6 +158,7 @@ public final class Inference {
         }
         Tally tally = tallies.computeIfAbsent(access.field(), key -> new Tally());
         tally.all++;
+        tally.methods.add(method);
         tally.writes += access.write() ? 1 : 0;
         Path receiver = access.receiver().path();
         Set<List<Field>> here = new HashSet<>();

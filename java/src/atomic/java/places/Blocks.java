@@ -16,8 +16,11 @@ final class Blocks {
         return blocks.putIfAbsent(head, current) == null;
     }
 
+    /** Adds a line, unless the one before it says the same: both steps of {@code n++} have one place. */
     void add(String line) {
-        current.add(line);
+        if (current.isEmpty() || !current.get(current.size() - 1).equals(line)) {
+            current.add(line);
+        }
     }
 
     /** All lines, each block once. */

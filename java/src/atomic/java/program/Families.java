@@ -35,6 +35,7 @@ public final class Families {
     private final Map<String, Integer> numbers = new HashMap<>();
     private final Set<JavaClass> extended = new HashSet<>();
     private final Map<TypeElement, Boolean> values = new HashMap<>();
+    private final Map<Set<String>, Map<JavaClass, List<JavaMethod>>> named = new HashMap<>();
 
     public Families(Program program) {
         this.program = program;
@@ -131,6 +132,14 @@ public final class Families {
     /** A class, and all above and below it, in the order of the sources. */
     public List<JavaClass> kin(JavaClass each) {
         return program.overriding().kin(each);
+    }
+
+    /** The methods of such names, with one parameter at most, that objects of a class or of its kin have. */
+    public List<JavaMethod> named(JavaClass known, Set<String> names) {
+        return named.computeIfAbsent(names, key -> new HashMap<>()).computeIfAbsent(known, key -> kin(known).stream()
+            .flatMap(each -> each.methods().stream()).filter(method -> method.isVirtual() && !method.isAbstract()
+                && names.contains(method.symbol().getSimpleName().toString()) && method.symbol().getParameters().size() <= 1)
+            .toList());
     }
 
     /** How a skeleton spells the name of a method. */

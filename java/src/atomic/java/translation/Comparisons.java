@@ -4,6 +4,7 @@ import atomic.java.ownership.Uses;
 import atomic.java.places.Notes;
 import atomic.java.program.JavaClass;
 import atomic.java.program.JavaMethod;
+import atomic.java.skeleton.Method;
 import atomic.java.skeleton.Part;
 import atomic.java.skeleton.Value;
 import com.sun.source.tree.BindingPatternTree;
@@ -47,6 +48,9 @@ final class Comparisons {
     /** What works on objects, and has none. */
     private static final Pattern FUNCTIONS = Pattern.compile("java\\.util\\.(function\\..*|Comparator|"
         + "concurrent\\.Callable)|java\\.lang\\.Class");
+
+    /** Of more methods than this each place would take most of a text. */
+    private static final int MOST_CALLS = 100;
 
     /** What makes a text of an object. */
     static final Set<String> TEXT = Set.of("toString");
@@ -133,23 +137,22 @@ final class Comparisons {
 
     /** The methods of these names that an object of a class at hand may have: any of them, or none. */
     void own(JavaClass known, Set<String> names, Tree at) {
-        List<Part> calls = new ArrayList<>();
         names.forEach(name -> parts(known, name, at));
-        for (JavaClass each : services.families().kin(known)) {
-            for (JavaMethod method : each.methods()) {
-                if (names.contains(method.symbol().getSimpleName().toString()) && method.isVirtual()
-                        && !method.isAbstract() && method.symbol().getParameters().size() <= 1) {
-                    calls.add(new Part.Call(new Value.Opaque(each.shape()), services.methods().of(method),
-                        List.of(new Value.Named(body.statics())), services.attribution().name(at)));
-                }
-            }
-        }
-        if (!calls.isEmpty()) {
-            Part one = Dispatch.either(calls);
+        List<JavaMethod> all = services.families().named(known, names);
+        if (all.size() > MOST_CALLS) {
+            body.emit(services.doubt(Method.Doubt.ANY, "one of many methods", true, body, at, "limit: more than " + MOST_CALLS
+                + " methods may run here, called by a library, so this may do anything"));
+        } else if (!all.isEmpty()) {
+            Part one = Dispatch.either(all.stream().map(each -> call(each, at)).toList());
             body.emit(names == TEXT ? one : new Part.Repeat(one, services.attribution().name(at)));
         } else {
             new Callbacks(services, body).byLibrary(known, names, at);
         }
+    }
+
+    private Part call(JavaMethod method, Tree at) {
+        return new Part.Call(new Value.Opaque(method.owner().shape()), services.methods().of(method),
+            List.of(new Value.Named(body.statics())), services.attribution().name(at));
     }
 
     /** An object that is asked here whether it is of a class at hand has that class's methods, whatever its name says. */
@@ -213,8 +216,7 @@ final class Comparisons {
         List<Part> calls = new ArrayList<>();
         for (JavaMethod method : isFunction(known) ? known.methods() : List.<JavaMethod>of()) {
             if (method.isVirtual() && method.isOpen() && !method.isAbstract()) {
-                calls.add(new Part.Call(new Value.Opaque(known.shape()), services.methods().of(method),
-                    List.of(new Value.Named(body.statics())), services.attribution().name(at)));
+                calls.add(call(method, at));
             }
         }
         if (!calls.isEmpty()) {

@@ -81,7 +81,7 @@ final class Exits {
 
     /** The same of a field whose object gets out in other ways too, where a method that is asked gives it back within another. */
     void leave(VariableElement field, Tree use, Body body) {
-        if (!areTold(field) && isGivenBack(use) && services.ownership().exits(field).contains(use)
+        if (!areTold(field) && services.ownership().exits(field).contains(use) && isGivenBack(use)
                 && isAsked(services.program().around(use))) {
             Method way = left.computeIfAbsent(field, key -> services.blank("whoever is given what " + key.getSimpleName()
                 + " holds", Method.Doubt.ANY));
