@@ -9,11 +9,12 @@ use std::mem::replace;
 /// The rank of a method that has none yet.
 pub(crate) const OPEN: u64 = u64::MAX;
 
-/// Methods to be asked, by their places, each once.
+/// Methods to be asked, by their places, each once; and the room of those that were taken out before.
 #[derive(Drop)]
 struct Due {
     is_due: Vec<bool>,
     places: Vec<usize>,
+    room: Vec<usize>,
 }
 
 impl Due {
@@ -22,6 +23,7 @@ impl Due {
         Ok(Due {
             is_due: vec![in alloc; false; count]?,
             places: Vec::new(alloc),
+            room: Vec::new(alloc),
         })
     }
 
@@ -37,11 +39,19 @@ impl Due {
 
     /// Takes all of them out.
     fn take(&mut self, alloc: Global) -> Vec<usize> {
-        let places = replace(&mut self.places, Vec::new(alloc));
+        let room = replace(&mut self.room, Vec::new(alloc));
+        let places = replace(&mut self.places, room);
         for place in places.as_slice() {
             unmark(&mut self.is_due, *place);
         }
         places
+    }
+
+    /// Gives back those that were taken out, for their room.
+    fn give_back(&mut self, asked: Vec<usize>) {
+        let mut room = asked;
+        room.clear();
+        self.room = room;
     }
 }
 
@@ -171,6 +181,11 @@ impl Queues {
     /// Takes out those that are asked as they are.
     pub(crate) fn take_led(&mut self, alloc: Global) -> Vec<usize> {
         self.led.due.take(alloc)
+    }
+
+    /// Gives back those that were asked as they are.
+    pub(crate) fn give_back_led(&mut self, asked: Vec<usize>) {
+        self.led.due.give_back(asked);
     }
 
     /// Takes out those that are asked whether they are more than a level.

@@ -43,6 +43,7 @@ fn rank_all_due_led(
     for place in places.as_slice() {
         any |= rank_led(grounds, queues, *place, number)?;
     }
+    queues.give_back_led(places);
     Ok(any)
 }
 
