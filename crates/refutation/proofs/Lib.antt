@@ -27,6 +27,7 @@ mod Reached
 mod StepLemmas
 mod GroupTables
 mod OverTables
+mod BodyTables
 -- Lemmas on texts of certificates: held paths (Held), lines (Lines), and whole texts (TextLaws).
 pub mod Held
 pub mod Lines

@@ -16,7 +16,7 @@ use Rattle.refutation.proofs.up.run_effect.Goals as goal
 pub returns-then-over-whole : goal.returns-then-over-whole
 returns-then-over-whole c =
     let A = said_by (rel_of c.args.floors.now.sets.now) c.args.floors.now.tables.items in
-    let m = c.args.method in
+    let m = c.args.over.now.method in
     let H = has_path c.args.held.now in
     let whole : c.args.over.now.whole ≡ true = search rules in
     let inside = subst (λ s. IsSubset H (has_path (rel_of s m))) (sym c.requires.same) c.requires.inside in
@@ -35,7 +35,7 @@ returns c =
     let rows = c.args.judged.now.over.now in
     let methods = c.of.result.now in
     let body = c.in_ok-body.body in
-    let row = ap (λ ns. joined_over kept A ns H) c.of.ensures ∙ row_same kept A H P rows c.args.method c.requires.over in
-    let low = low_both (joined_over kept A methods H) (joined_over kept A (overriding P c.args.method) H) _ c.args.over.now.most row (ap (λ (o : OverSaid). o.most) c.over.view_is) (c.requires.said.low H) in
+    let row = ap (λ ns. joined_over kept A ns H) c.of.ensures ∙ row_same kept A H P rows c.args.over.now.method c.requires.over in
+    let low = low_both (joined_over kept A methods H) (joined_over kept A (overriding P c.args.over.now.method) H) _ c.args.over.now.most row (ap (λ (o : OverSaid). o.most) c.over.view_is) (c.requires.said.low H) in
     c.said_over.ensures.whole low ∙ (λ i. join_of body (joined_over (rel_of (c.requires.same i)) A methods H))
-    ∙ run_with P rel A H rows c.args.method methods body c.requires.over c.of.ensures c.in_ok-body.ensures
+    ∙ run_with P rel A H rows c.args.over.now.method methods body c.requires.over c.of.ensures c.in_ok-body.ensures
