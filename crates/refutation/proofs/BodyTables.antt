@@ -20,7 +20,7 @@ use Rattle.rules.proofs.BasicLemmas.{below_chain, below_itself, both_below}
 use Rattle.rules.proofs.SetLemmas.{all_has, has_all}
 use Rattle.refutation.specs.Bodies.{body_under, BodyFalls, TellsBetween, IsBodyKnown}
 use Rattle.refutation.specs.Ends.{KeptAgrees, cells_at}
-use Rattle.refutation.specs.Lines.{LineData, floor, body_effect}
+use Rattle.refutation.specs.Lines.{LineData, floor}
 use Rattle.refutation.specs.Overs.{below_each}
 use Rattle.refutation.specs.Passes.{subsets_of}
 use Rattle.refutation.specs.Tables.{table_entry, said_by}

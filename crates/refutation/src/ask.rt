@@ -1,5 +1,5 @@
 //! What is still to be said of one method.
-ghost use Rattle.std.specs.Prelude.{◌≡◌, ◌∷◌, ◌<◌, [], filter, length, IfOk, OnOk};
+ghost use Rattle.std.specs.Prelude.{◌∷◌, ◌<◌, [], filter, length, IfOk, OnOk};
 ghost use Rattle.std.specs.List.{AllByRecursion, list_all};
 ghost use Rattle.std.specs.List.Sorted.{IsStrictlySortedBy};
 ghost use Rattle.paths.specs.Paths.{path_order};

@@ -153,11 +153,17 @@ fn tell_between(
         return tell_between(alloc, look, behind, held, ends, with);
     }
     let most = body_with(alloc, look, behind, held, ends.fewest)?;
-    let low = Ends { fewest: ends.fewest, most };
+    let low = Ends {
+        fewest: ends.fewest,
+        most,
+    };
     tell_between(alloc, look, behind, held, low, without)?;
     let more = with_path(alloc, path, held)?;
     let fewest = body_without(alloc, look, behind, more.as_slice(), ends.most)?;
-    let high = Ends { fewest, most: ends.most };
+    let high = Ends {
+        fewest,
+        most: ends.most,
+    };
     tell_between(alloc, look, behind, more.as_slice(), high, with)
 }
 

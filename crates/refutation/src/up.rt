@@ -106,7 +106,11 @@ pub(crate) fn run_effect(
 {
     let body = body_or_told(alloc, judged, floors, over.method, bodies, held)?;
     if over.whole {
-        let others = entry(floors.sets.rel(over.method), over.table.basics.as_slice(), held);
+        let others = entry(
+            floors.sets.rel(over.method),
+            over.table.basics.as_slice(),
+            held,
+        );
         return Ok(body.join(others));
     }
     Ok(said_over(floors, judged.over.of(over.method), held, body, over.most))

@@ -111,6 +111,18 @@ ask_method-requires-clause-said c =
     subst (λ s. IsSaidOver P (rel_of s) (floor (rel_of s) lines) over.method over.table over.whole over.most) agrees.same
     (subst (λ k. IsSaidOver P (rel_of c.args.said.now.floors.sets.now) (floor (rel_of c.args.said.now.floors.sets.now) lines) k over.table over.whole over.most) (sym c.in_ok-over.ensures.its) (c.in_ok-over.ensures.said lines agrees.says))
 
+pub sleep-requires : goal.sleep-requires
+sleep-requires c =
+    let methods = (program_of c.args.asking.now.judged.now.program.now).methods in
+    let below = slice_get_within methods c.args.id (method_of c.args.method.now) c.requires.is in
+    subst (λ k. k < length c.args.waits.now.bodies) (sym c.id.view_is) (omega (arith, below, c.requires.body_waits))
+
+pub sleep-requires-then-len-before : goal.sleep-requires-then-len-before
+sleep-requires-then-len-before c =
+    let methods = (program_of c.args.asking.now.judged.now.program.now).methods in
+    let below = slice_get_within methods c.args.id (method_of c.args.method.now) c.requires.is in
+    subst (λ k. k < length c.args.waits.now.methods) (sym c.id.view_is) (omega (arith, below, c.requires.waits))
+
 pub bodies_of-requires-clause-stays : goal.bodies_of-requires-clause-stays
 bodies_of-requires-clause-stays c = λ is.
     let P = program_of c.args.asking.now.judged.now.program.now in
