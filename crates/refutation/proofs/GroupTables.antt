@@ -141,7 +141,7 @@ module _ (rel : List PathData) where
 -- Tables of some paths in tables of others.
 
 -- each half of a table, and what it says, with a basic joined everywhere
-half_map : (b : Bool) (f : Basic → Basic) (table : List Basic) → half_table b (map f table) ≡ map f (half_table b table)
+pub half_map : (b : Bool) (f : Basic → Basic) (table : List Basic) → half_table b (map f table) ≡ map f (half_table b table)
 half_map true f table = ap (λ n. drop (n / 2) (map f table)) (length-map table f) ∙ drop-map f (length table / 2) table
 half_map false f table = ap (λ n. take (n / 2) (map f table)) (length-map table f) ∙ take-map f (length table / 2) table
 

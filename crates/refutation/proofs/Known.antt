@@ -31,7 +31,7 @@ module _ (P : Program) (rel : ℕ → List PathData) where
   held_in_part : (paths : List PathData) (H K : Held) → IsSubset H K → IsSubset (held_in paths H) (held_in paths K)
   held_in_part paths H K part q e = and_from (has_path paths q) (K q) (first (has_path paths q) (H q) e) (part q (second (has_path paths q) (H q) e))
 
-  body_falls : (ls : List LineData) (o : Option Method) (H K : Held) → IsSubset H K → AtMost (body_effect P rel (floor rel ls) o K) (body_effect P rel (floor rel ls) o H)
+  pub body_falls : (ls : List LineData) (o : Option Method) (H K : Held) → IsSubset H K → AtMost (body_effect P rel (floor rel ls) o K) (body_effect P rel (floor rel ls) o H)
   body_falls ls None H K part = refl
   body_falls ls (Some method) H K part = stmt_falls P rel (floor rel ls) (floor_falls rel ls) method.body H K part
 

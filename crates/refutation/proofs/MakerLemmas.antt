@@ -67,7 +67,7 @@ asked_inside rel required parts kept = subst (AllByRecursion (λ held. IsSubset 
 
 module _ (P : Program) (sets kept : List MethodPaths) (rows : List (List Basic)) (lines : List LineData) (agrees : KeptAgrees P sets kept rows lines) where
   -- what is said is the floor of the lines
-  said_is : said_by (rel_of kept) rows ≡ floor (rel_of sets) lines
+  pub said_is : said_by (rel_of kept) rows ≡ floor (rel_of sets) lines
   said_is = agrees.says.says ∙ ap (λ s. floor (rel_of s) lines) agrees.same
 
   -- the most that is said of the methods that override one, as the code sees it

@@ -1,11 +1,10 @@
 //! What is still to be said of one method.
-ghost use Rattle.std.specs.Prelude.{◌≡◌, ◌∷◌, ◌<◌, [], true, false, length, slice_get, IfOk, OnOk};
-ghost use Rattle.std.specs.List.{AllByRecursion};
+ghost use Rattle.std.specs.Prelude.{◌∷◌, ◌<◌, [], filter, length, IfOk, OnOk};
+ghost use Rattle.std.specs.List.{AllByRecursion, list_all};
 ghost use Rattle.std.specs.List.Sorted.{IsStrictlySortedBy};
 ghost use Rattle.paths.specs.Paths.{path_order};
 ghost use Rattle.algebra.specs.HeldPaths.{has_path};
 ghost use Rattle.core_program.specs.Views.{program_of, method_of};
-ghost use Rattle.rules.specs.Called.{method_calls};
 ghost use Rattle.rules.specs.Near.{AreRelevant, rel_of};
 ghost use Rattle.rules.specs.Overriding.{AreOverriders};
 ghost use Rattle.rules.specs.Rules.{IsSubset, AtMost};
@@ -14,8 +13,10 @@ ghost use Rattle.refutation.specs.Tables.{said_by};
 ghost use Rattle.refutation.specs.Passes.{cells_in, subsets_of};
 ghost use Rattle.refutation.specs.Ends.{KeptAgrees, IsPass, cells_at};
 ghost use Rattle.refutation.specs.Overs.{IsSaidOver};
-ghost use Rattle.refutation.specs.Waiting.{Adds, AreBodiesSaid};
+ghost use Rattle.refutation.specs.Waiting.{Adds};
+ghost use Rattle.refutation.specs.Bodies.{IsBodyKnown};
 
+use crate::bodies::Bodies;
 use crate::check::keeps_bound;
 use crate::floors::Floors;
 use crate::judged::Judged;
@@ -38,20 +39,22 @@ fn ask(
     judged: &Judged<'_>,
     said: &mut Said<'_>,
     over: &OverSaid,
-    method: MethodId,
+    bodies: &Bodies,
     held: &[Path],
 ) -> Result<bool, NoMemory>
-    requires there { method < length (program_of judged.now.program.now).methods }
+    requires there { over.now.method < length (program_of judged.now.program.now).methods }
     requires over { AreOverriders (program_of judged.now.program.now) judged.now.over.now }
-    requires said { let rel = rel_of judged.now.sets.now in IsSaidOver (program_of judged.now.program.now) rel (floor rel said.old.lines.items) method over.now.table over.now.whole over.now.most }
+    requires said { let rel = rel_of judged.now.sets.now in IsSaidOver (program_of judged.now.program.now) rel (floor rel said.old.lines.items) over.now.method over.now.table over.now.whole over.now.most }
     requires agrees { KeptAgrees (program_of judged.now.program.now) judged.now.sets.now said.old.floors.sets.now said.old.floors.tables.items said.old.lines.items }
     requires ascends { IsStrictlySortedBy path_order held.now }
-    requires inside { IsSubset (has_path held.now) (has_path (rel_of judged.now.sets.now method)) }
+    requires inside { IsSubset (has_path held.now) (has_path (rel_of judged.now.sets.now over.now.method)) }
+    requires body { IsBodyKnown (program_of judged.now.program.now) (rel_of judged.now.sets.now) over.now.method (held.now ∷ []) said.old.lines.items bodies.now.table bodies.now.is_told bodies.now.is_said }
     ensures agrees { OnOk result (KeptAgrees (program_of judged.now.program.now) judged.now.sets.now said.new.floors.sets.now said.new.floors.tables.items said.new.lines.items) }
-    ensures adds { OnOk result (Adds method said.old.lines.items said.new.lines.items) }
-    ensures asked { IfOk result (λ broken. IsPass (program_of judged.now.program.now) (rel_of judged.now.sets.now) (record { method = method; held = held.now } ∷ []) said.old.lines.items said.new.lines.items broken) }
+    ensures adds { OnOk result (Adds over.now.method said.old.lines.items said.new.lines.items) }
+    ensures asked { IfOk result (λ broken. IsPass (program_of judged.now.program.now) (rel_of judged.now.sets.now) (record { method = over.now.method; held = held.now } ∷ []) said.old.lines.items said.new.lines.items broken) }
 {
-    let found = run_effect(alloc, judged, &said.floors, over, method, held)?;
+    let method = over.method;
+    let found = run_effect(alloc, judged, &said.floors, over, bodies, held)?;
     if found.below(said.floors.at(method, held)) {
         return Ok(false);
     }
@@ -71,8 +74,8 @@ fn ask_unsaid(
     judged: &Judged<'_>,
     said: &mut Said<'_>,
     over: &OverSaid,
+    bodies: &Bodies,
     held: &[Path],
-    is_said: bool,
 ) -> Result<bool, NoMemory>
     requires there { over.now.method < length (program_of judged.now.program.now).methods }
     requires over { AreOverriders (program_of judged.now.program.now) judged.now.over.now }
@@ -80,15 +83,15 @@ fn ask_unsaid(
     requires agrees { KeptAgrees (program_of judged.now.program.now) judged.now.sets.now said.old.floors.sets.now said.old.floors.tables.items said.old.lines.items }
     requires ascends { IsStrictlySortedBy path_order held.now }
     requires inside { IsSubset (has_path held.now) (has_path (rel_of judged.now.sets.now over.now.method)) }
-    requires body { is_said ≡ true → AreBodiesSaid (program_of judged.now.program.now) (rel_of judged.now.sets.now) (record { method = over.now.method; held = held.now } ∷ []) said.old.lines.items }
+    requires body { IsBodyKnown (program_of judged.now.program.now) (rel_of judged.now.sets.now) over.now.method (held.now ∷ []) said.old.lines.items bodies.now.table bodies.now.is_told bodies.now.is_said }
     ensures agrees { OnOk result (KeptAgrees (program_of judged.now.program.now) judged.now.sets.now said.new.floors.sets.now said.new.floors.tables.items said.new.lines.items) }
     ensures adds { OnOk result (Adds over.now.method said.old.lines.items said.new.lines.items) }
     ensures asked { IfOk result (λ broken. IsPass (program_of judged.now.program.now) (rel_of judged.now.sets.now) (record { method = over.now.method; held = held.now } ∷ []) said.old.lines.items said.new.lines.items broken) }
 {
-    if is_said && tells_as_much_at(&said.floors, over, held) {
+    if bodies.is_said && tells_as_much_at(&said.floors, over, held) {
         return Ok(false);
     }
-    ask(alloc, judged, said, over, over.method, held)
+    ask(alloc, judged, said, over, bodies, held)
 }
 
 /// Asks of a method at each of these sets, up to the first line that is above its bound.
@@ -97,8 +100,8 @@ fn ask_sets(
     judged: &Judged<'_>,
     said: &mut Said<'_>,
     over: &OverSaid,
+    bodies: &Bodies,
     parts: &[HeldSet],
-    is_said: bool,
 ) -> Result<bool, NoMemory>
     requires there { over.now.method < length (program_of judged.now.program.now).methods }
     requires over { AreOverriders (program_of judged.now.program.now) judged.now.over.now }
@@ -106,15 +109,14 @@ fn ask_sets(
     requires agrees { KeptAgrees (program_of judged.now.program.now) judged.now.sets.now said.old.floors.sets.now said.old.floors.tables.items said.old.lines.items }
     requires ascend { AllByRecursion (IsStrictlySortedBy path_order) parts.now }
     requires inside { AllByRecursion (λ held. IsSubset (has_path held) (has_path (rel_of judged.now.sets.now over.now.method))) parts.now }
-    requires quiet { is_said ≡ true → method_calls (slice_get (program_of judged.now.program.now).methods over.now.method) [] over.now.method ≡ false }
-    requires body { is_said ≡ true → AreBodiesSaid (program_of judged.now.program.now) (rel_of judged.now.sets.now) (cells_at over.now.method parts.now) said.old.lines.items }
+    requires body { IsBodyKnown (program_of judged.now.program.now) (rel_of judged.now.sets.now) over.now.method parts.now said.old.lines.items bodies.now.table bodies.now.is_told bodies.now.is_said }
     ensures agrees { OnOk result (KeptAgrees (program_of judged.now.program.now) judged.now.sets.now said.new.floors.sets.now said.new.floors.tables.items said.new.lines.items) }
     ensures adds { OnOk result (Adds over.now.method said.old.lines.items said.new.lines.items) }
     ensures asked { IfOk result (λ broken. IsPass (program_of judged.now.program.now) (rel_of judged.now.sets.now) (cells_at over.now.method parts.now) said.old.lines.items said.new.lines.items broken) }
 {
     for part in parts {
         let held = part.paths.as_slice();
-        if ask_unsaid(alloc, judged, said, over, held, is_said)? {
+        if ask_unsaid(alloc, judged, said, over, bodies, held)? {
             return Ok(true);
         }
     }
@@ -143,26 +145,25 @@ pub(crate) fn ask_method(
     judged: &Judged<'_>,
     said: &mut Said<'_>,
     over: &OverSaid,
+    bodies: &Bodies,
     method: &CoreMethod,
-    is_said: bool,
 ) -> Result<bool, NoMemory>
     requires there { over.now.method < length (program_of judged.now.program.now).methods }
     requires over { AreOverriders (program_of judged.now.program.now) judged.now.over.now }
     requires said { let rel = rel_of judged.now.sets.now in IsSaidOver (program_of judged.now.program.now) rel (floor rel said.old.lines.items) over.now.method over.now.table over.now.whole over.now.most }
     requires relevant { AreRelevant (program_of judged.now.program.now) judged.now.sets.now }
     requires agrees { KeptAgrees (program_of judged.now.program.now) judged.now.sets.now said.old.floors.sets.now said.old.floors.tables.items said.old.lines.items }
-    requires quiet { is_said ≡ true → method_calls (slice_get (program_of judged.now.program.now).methods over.now.method) [] over.now.method ≡ false }
     requires body { let rel = rel_of judged.now.sets.now in
-        is_said ≡ true → AreBodiesSaid (program_of judged.now.program.now) rel (cells_in over.now.method (method_of method.now).requires_ (subsets_of (rel over.now.method))) said.old.lines.items }
+        IsBodyKnown (program_of judged.now.program.now) rel over.now.method (filter (λ held. list_all (has_path held) (method_of method.now).requires_) (subsets_of (rel over.now.method))) said.old.lines.items bodies.now.table bodies.now.is_told bodies.now.is_said }
     ensures agrees { OnOk result (KeptAgrees (program_of judged.now.program.now) judged.now.sets.now said.new.floors.sets.now said.new.floors.tables.items said.new.lines.items) }
     ensures adds { OnOk result (Adds over.now.method said.old.lines.items said.new.lines.items) }
     ensures asked { IfOk result (λ broken. let rel = rel_of judged.now.sets.now in
         IsPass (program_of judged.now.program.now) rel (cells_in over.now.method (method_of method.now).requires_ (subsets_of (rel over.now.method))) said.old.lines.items said.new.lines.items broken) }
 {
     let id = over.method;
-    if is_said && tells_as_much(&said.floors, over, id) {
+    if bodies.is_said && tells_as_much(&said.floors, over, id) {
         return Ok(false);
     }
     let parts = parts_with(alloc, judged.sets.rel(id), method.requires_.as_slice())?;
-    ask_sets(alloc, judged, said, over, parts.as_slice(), is_said)
+    ask_sets(alloc, judged, said, over, bodies, parts.as_slice())
 }

@@ -4,6 +4,7 @@
 #![tactic(auto)]
 
 mod ask;
+mod bodies;
 mod check;
 mod faults;
 mod floors;

@@ -224,7 +224,7 @@ pub(crate) fn said_of_overriding(
 }
 
 /// Whether a table has as many basics as another, each at most the one at its place there.
-fn are_below(table: &[Basic], others: &[Basic]) -> bool
+pub(crate) fn are_below(table: &[Basic], others: &[Basic]) -> bool
     ensures { result ≡ below_each table.now others.now }
 {
     let Some((basic, rest)) = table.split_first() else {

@@ -80,5 +80,8 @@ pub(crate) fn parts_with(
     ensures { IfOk result (λ parts. parts.items ≡ filter (λ held. list_all (has_path held) required.now) (subsets_of paths.now)) }
 {
     let parts = all_parts(alloc, paths)?;
+    if required.is_empty() {
+        return Ok(parts);
+    }
     sets_with(alloc, parts.as_slice(), required)
 }

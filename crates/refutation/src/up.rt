@@ -1,5 +1,5 @@
 //! What a call of a method comes to under an assignment.
-ghost use Rattle.std.specs.Prelude.{◌≡◌, slice_get, IfOk};
+ghost use Rattle.std.specs.Prelude.{◌≡◌, true, slice_get, IfOk};
 ghost use Rattle.algebra.specs.Basics.{below_of, join_of};
 ghost use Rattle.algebra.specs.HeldPaths.{has_path};
 ghost use Rattle.core_program.specs.Views.{program_of};
@@ -8,8 +8,10 @@ ghost use Rattle.rules.specs.Overriding.{AreOverriders};
 ghost use Rattle.rules.specs.Rules.{IsSubset, AtMost};
 ghost use Rattle.refutation.specs.Lines.{body_effect, joined_over, certified_effect};
 ghost use Rattle.refutation.specs.Overs.{IsSaidOver};
-ghost use Rattle.refutation.specs.Tables.{said_by};
+ghost use Rattle.refutation.specs.Bodies.{body_under};
+ghost use Rattle.refutation.specs.Tables.{said_by, table_entry};
 
+use crate::bodies::Bodies;
 use crate::floors::{Floors, entry};
 use crate::judged::Judged;
 use crate::overs::OverSaid;
@@ -62,6 +64,26 @@ pub(crate) fn said_over(
     so_far
 }
 
+/// The effect of a method's body: by the table where it is told.
+fn body_or_told(
+    alloc: Global,
+    judged: &Judged<'_>,
+    floors: &Floors<'_>,
+    method: MethodId,
+    bodies: &Bodies,
+    held: &[Path],
+) -> Result<Basic, NoMemory>
+    requires { bodies.now.is_told ≡ true →
+        table_entry (rel_of floors.now.sets.now method) bodies.now.table (has_path held.now) ≡ body_under (program_of judged.now.program.now) (rel_of judged.now.sets.now) (said_by (rel_of floors.now.sets.now) floors.now.tables.items) method (has_path held.now) }
+    ensures { IfOk result (λ b. b ≡ body_under (program_of judged.now.program.now) (rel_of judged.now.sets.now) (said_by (rel_of floors.now.sets.now) floors.now.tables.items) method (has_path held.now)) }
+{
+    if bodies.is_told {
+        let rel = floors.sets.rel(method);
+        return Ok(entry(rel, bodies.table.basics.as_slice(), held));
+    }
+    body_effect(alloc, judged.program, judged.sets, floors, method, held)
+}
+
 /// What a call of a method of the program comes to where these paths are held: its body, or what is said of the methods that override
 /// it. These are looked at one by one only where there is no table of what is said of them all, and only where the body comes to less than
 /// what is said of them at most.
@@ -70,20 +92,26 @@ pub(crate) fn run_effect(
     judged: &Judged<'_>,
     floors: &Floors<'_>,
     over: &OverSaid,
-    method: MethodId,
+    bodies: &Bodies,
     held: &[Path],
 ) -> Result<Basic, NoMemory>
     requires over { AreOverriders (program_of judged.now.program.now) judged.now.over.now }
     requires same { floors.now.sets.now ≡ judged.now.sets.now }
-    requires inside { IsSubset (has_path held.now) (has_path (rel_of judged.now.sets.now method)) }
-    requires said { let rel = rel_of floors.now.sets.now in IsSaidOver (program_of judged.now.program.now) rel (said_by rel floors.now.tables.items) method over.now.table over.now.whole over.now.most }
+    requires inside { IsSubset (has_path held.now) (has_path (rel_of judged.now.sets.now over.now.method)) }
+    requires told { bodies.now.is_told ≡ true →
+        table_entry (rel_of floors.now.sets.now over.now.method) bodies.now.table (has_path held.now) ≡ body_under (program_of judged.now.program.now) (rel_of judged.now.sets.now) (said_by (rel_of floors.now.sets.now) floors.now.tables.items) over.now.method (has_path held.now) }
+    requires said { let rel = rel_of floors.now.sets.now in IsSaidOver (program_of judged.now.program.now) rel (said_by rel floors.now.tables.items) over.now.method over.now.table over.now.whole over.now.most }
     ensures { IfOk result (λ b.
-        b ≡ certified_effect (program_of judged.now.program.now) (rel_of judged.now.sets.now) (said_by (rel_of floors.now.sets.now) floors.now.tables.items) method (has_path held.now)) }
+        b ≡ certified_effect (program_of judged.now.program.now) (rel_of judged.now.sets.now) (said_by (rel_of floors.now.sets.now) floors.now.tables.items) over.now.method (has_path held.now)) }
 {
-    let body = body_effect(alloc, judged.program, judged.sets, floors, method, held)?;
+    let body = body_or_told(alloc, judged, floors, over.method, bodies, held)?;
     if over.whole {
-        let others = entry(floors.sets.rel(method), over.table.basics.as_slice(), held);
+        let others = entry(
+            floors.sets.rel(over.method),
+            over.table.basics.as_slice(),
+            held,
+        );
         return Ok(body.join(others));
     }
-    Ok(said_over(floors, judged.over.of(method), held, body, over.most))
+    Ok(said_over(floors, judged.over.of(over.method), held, body, over.most))
 }

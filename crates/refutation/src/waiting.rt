@@ -12,6 +12,7 @@ ghost use Rattle.refutation.specs.Tables.{said_by};
 ghost use Rattle.refutation.specs.Waiting.{AreSettled, AreBodiesSettled, AreOversKnown, AreWoken, AreWokenBut};
 
 use crate::ask::ask_method;
+use crate::bodies::{BodyMark, bodies_of};
 use crate::floors::{Floors, method_at};
 use crate::judged::Asking;
 use crate::overs::{said_of_overriding, says_no_more};
@@ -93,17 +94,16 @@ fn has_place(places: &[usize], place: usize) -> bool
     false
 }
 
-/// Whether what a method's body comes to is said, and stays so whatever more is said of the method: it doesn't wait, and doesn't call
-/// itself.
-fn is_body_said(asking: &Asking<'_>, bodies: &Waits, place: usize) -> bool
+/// Whether what a method's body comes to stays so whatever more is said of the method: it doesn't call itself. And whether it is said: it
+/// doesn't wait.
+fn body_mark(asking: &Asking<'_>, bodies: &Waits, place: usize) -> BodyMark
     requires { place < length bodies.now }
-    ensures said { result ≡ true → slice_get bodies.now place ≡ Some false }
-    ensures quiet { result ≡ true → has_method (callers_of_method asking.now.calls.now place) place ≡ false }
+    ensures said { result.is_said ≡ true → slice_get bodies.now place ≡ Some false }
+    ensures stays { result.stays ≡ true → has_method (callers_of_method asking.now.calls.now place) place ≡ false }
 {
-    if bodies.has(place) {
-        return false;
-    }
-    !has_place(callers_at(asking.calls, place), place)
+    let stays = !has_place(callers_at(asking.calls, place), place);
+    let is_said = !bodies.has(place);
+    BodyMark { stays, is_said }
 }
 
 /// Asks of a method at each part of its relevant paths that has its required ones, up to the first line that is above its bound. Where
@@ -141,9 +141,10 @@ pub(crate) fn ask_noting(
 {
     let before = said.lines.len();
     let place = id.0 as usize;
-    let is_said = is_body_said(asking, &waits.bodies, place);
+    let mark = body_mark(asking, &waits.bodies, place);
+    let bodies = bodies_of(alloc, asking.judged, said, id, method, mark)?;
     let over = said_of_overriding(alloc, asking.judged, &said.floors, &mut waits.known, id)?;
-    if ask_method(alloc, asking.judged, said, &over, method, is_said)? {
+    if ask_method(alloc, asking.judged, said, &over, &bodies, method)? {
         return Ok(true);
     }
     waits.bodies.sleep(place);

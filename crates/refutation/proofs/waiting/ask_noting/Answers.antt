@@ -1,14 +1,18 @@
 -- Who is settled and what is known where no line was added, and where one was.
 use Rattle.std.proofs.Common.{◌≡◌, ◌<◌, [], true, false, length, rules, slice_get, Some, sym, ap, subst, ◌∙◌, arith}
+use Rattle.std.specs.Prelude.{filter}
+use Rattle.std.specs.List.{list_all}
 use Rattle.std.proofs.lemmas.Bool.{false_from_ne_true, both_ways}
 use Rattle.std.proofs.lemmas.Option.{slice_get_within}
 use Rattle.core_program.specs.Views.{program_of, method_of}
+use Rattle.algebra.specs.HeldPaths.{has_path}
 use Rattle.rules.specs.Near.{rel_of}
 use Rattle.rules.specs.Called.{has_method, method_calls, counts_as_caller, callers_of_method}
 use Rattle.rules.specs.Search.{row_at as overs_at}
 use Rattle.refutation.specs.Passes.{cells_in, subsets_of}
 use Rattle.refutation.specs.Lines.{floor}
 use Rattle.refutation.specs.Ends.{IsPass}
+use Rattle.refutation.specs.Bodies.{IsBodyKnown}
 use Rattle.refutation.specs.Overs.{IsSaidOver}
 use Rattle.refutation.specs.Waiting.{Adds, AreBodiesSaid, AreOversKnown, IsAsleep, cells_with}
 use Rattle.refutation.proofs.BodyLemmas.{bodies_of_said, bodies_asleep, bodies_woken}
@@ -107,25 +111,42 @@ ask_method-requires-clause-said c =
     subst (λ s. IsSaidOver P (rel_of s) (floor (rel_of s) lines) over.method over.table over.whole over.most) agrees.same
     (subst (λ k. IsSaidOver P (rel_of c.args.said.now.floors.sets.now) (floor (rel_of c.args.said.now.floors.sets.now) lines) k over.table over.whole over.most) (sym c.in_ok-over.ensures.its) (c.in_ok-over.ensures.said lines agrees.says))
 
-pub ask_method-requires-clause-quiet : goal.ask_method-requires-clause-quiet
-ask_method-requires-clause-quiet c = λ is.
+pub sleep-requires : goal.sleep-requires
+sleep-requires c =
+    let methods = (program_of c.args.asking.now.judged.now.program.now).methods in
+    let below = slice_get_within methods c.args.id (method_of c.args.method.now) c.requires.is in
+    subst (λ k. k < length c.args.waits.now.bodies) (sym c.id.view_is) (omega (arith, below, c.requires.body_waits))
+
+pub sleep-requires-then-len-before : goal.sleep-requires-then-len-before
+sleep-requires-then-len-before c =
+    let methods = (program_of c.args.asking.now.judged.now.program.now).methods in
+    let below = slice_get_within methods c.args.id (method_of c.args.method.now) c.requires.is in
+    subst (λ k. k < length c.args.waits.now.methods) (sym c.id.view_is) (omega (arith, below, c.requires.waits))
+
+pub bodies_of-requires-clause-stays : goal.bodies_of-requires-clause-stays
+bodies_of-requires-clause-stays c = λ is.
     let P = program_of c.args.asking.now.judged.now.program.now in
     let calls = c.args.asking.now.calls.now in
     let m = c.args.id in
     let below = slice_get_within P.methods m (method_of c.args.method.now) c.requires.is in
-    let none = subst (λ k. has_method (callers_of_method calls k) k ≡ false) c.id.view_is (c.is_body_said-is_said.ensures.quiet is) in
-    let quiet = false_from_ne_true (counts_as_caller P (overs_at []) m m) (λ calls_it. both_ways (has_method (callers_of_method calls m) m) none (c.requires.calls m m (omega (arith, below, c.requires.call_rows)) calls_it)) in
-    subst (λ k. method_calls (slice_get P.methods k) [] k ≡ false) (sym c.in_ok-over.ensures.its) quiet
+    let none = subst (λ k. has_method (callers_of_method calls k) k ≡ false) c.id.view_is (c.body_mark-mark.ensures.stays is) in
+    false_from_ne_true (counts_as_caller P (overs_at []) m m) (λ calls_it. both_ways (has_method (callers_of_method calls m) m) none (c.requires.calls m m (omega (arith, below, c.requires.call_rows)) calls_it))
+
+pub bodies_of-requires-clause-body : goal.bodies_of-requires-clause-body
+bodies_of-requires-clause-body c = λ is.
+    let P = program_of c.args.asking.now.judged.now.program.now in
+    let rel = rel_of c.args.asking.now.judged.now.sets.now in
+    let asleep : slice_get c.args.waits.now.bodies c.args.id ≡ Some false = subst (λ k. slice_get c.args.waits.now.bodies k ≡ Some false) c.id.view_is (c.body_mark-mark.ensures.said is) in
+    subst (λ o. AreBodiesSaid P rel (cells_with rel c.args.id o) c.args.said.now.lines.items) c.requires.is (c.requires.bodies c.args.id asleep)
 
 pub ask_method-requires-clause-body : goal.ask_method-requires-clause-body
-ask_method-requires-clause-body c = λ is.
+ask_method-requires-clause-body c =
     let P = program_of c.args.asking.now.judged.now.program.now in
     let rel = rel_of c.args.asking.now.judged.now.sets.now in
     let lines = c.args.said.now.lines.items in
+    let bodies = c.in_ok-bodies.bodies in
     let required = (method_of c.args.method.now).requires_ in
-    let asleep : slice_get c.args.waits.now.bodies c.args.id ≡ Some false = subst (λ k. slice_get c.args.waits.now.bodies k ≡ Some false) c.id.view_is (c.is_body_said-is_said.ensures.said is) in
-    subst (λ k. AreBodiesSaid P rel (cells_in k required (subsets_of (rel k))) lines) (sym c.in_ok-over.ensures.its)
-    (subst (λ o. AreBodiesSaid P rel (cells_with rel c.args.id o) lines) c.requires.is (c.requires.bodies c.args.id asleep))
+    subst (λ k. IsBodyKnown P rel k (filter (λ held. list_all (has_path held) required) (subsets_of (rel k))) lines bodies.table bodies.is_told bodies.is_said) (sym c.in_ok-over.ensures.its) c.in_ok-bodies.ensures
 
 pub returns-then-branch-clause-asked : goal.returns-then-branch-clause-asked
 returns-then-branch-clause-asked c =
