@@ -25,14 +25,17 @@ impl Model for HeldSet {
 }
 
 /// Each of these sets, followed by the same with one more path in front.
-fn with_and_without(alloc: Global, path: &Path, sets: &[HeldSet]) -> Result<Vec<HeldSet>, NoMemory>
-    ensures { IfOk result (λ doubled. doubled.items ≡ with_and_without path.now sets.now) }
+fn with_and_without(
+    alloc: Global,
+    path: &Path,
+    sets: Vec<HeldSet>,
+) -> Result<Vec<HeldSet>, NoMemory>
+    ensures { IfOk result (λ doubled. doubled.items ≡ with_and_without path.now sets.items) }
 {
     let mut doubled = Vec::new(alloc);
     for set in sets {
-        let without = copied(alloc, set.paths.as_slice())?;
-        doubled.push(HeldSet { paths: without })?;
         let with = with_path(alloc, path, set.paths.as_slice())?;
+        doubled.push(set)?;
         doubled.push(HeldSet { paths: with })?;
     }
     Ok(doubled)
@@ -45,7 +48,7 @@ fn all_parts(alloc: Global, paths: &[Path]) -> Result<Vec<HeldSet>, NoMemory>
     match paths.split_first() {
         Some((path, rest)) => {
             let parts = all_parts(alloc, rest)?;
-            with_and_without(alloc, path, parts.as_slice())
+            with_and_without(alloc, path, parts)
         }
         None => {
             let mut parts = Vec::new(alloc);

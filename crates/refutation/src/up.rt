@@ -105,7 +105,8 @@ pub(crate) fn run_effect(
         b ≡ certified_effect (program_of judged.now.program.now) (rel_of judged.now.sets.now) (said_by (rel_of floors.now.sets.now) floors.now.tables.items) over.now.method (has_path held.now)) }
 {
     let body = body_or_told(alloc, judged, floors, over.method, bodies, held)?;
-    if over.whole {
+    let methods = judged.over.of(over.method);
+    if over.whole && !methods.is_empty() {
         let others = entry(
             floors.sets.rel(over.method),
             over.table.basics.as_slice(),
@@ -113,5 +114,5 @@ pub(crate) fn run_effect(
         );
         return Ok(body.join(others));
     }
-    Ok(said_over(floors, judged.over.of(over.method), held, body, over.most))
+    Ok(said_over(floors, methods, held, body, over.most))
 }

@@ -15,8 +15,8 @@ use Rattle.refutation.proofs.OverTables.{low_both}
 use Rattle.refutation.proofs.RowLemmas.{row_same}
 use Rattle.refutation.proofs.up.run_effect.Goals as goal
 
-pub returns-then-over-whole : goal.returns-then-over-whole
-returns-then-over-whole c =
+pub returns-then-not-is_empty : goal.returns-then-not-is_empty
+returns-then-not-is_empty c =
     let A = said_by (rel_of c.args.floors.now.sets.now) c.args.floors.now.tables.items in
     let m = c.args.over.now.method in
     let H = has_path c.args.held.now in
@@ -37,9 +37,9 @@ returns c =
     let A = said_by kept c.args.floors.now.tables.items in
     let H = has_path c.args.held.now in
     let rows = c.args.judged.now.over.now in
-    let methods = c.of.result.now in
+    let methods = c.of-methods.result.now in
     let body = c.in_ok-body.body in
-    let its = c.of.ensures ∙ ap (λ (o : OverSaid). row_at rows o.method) c.over.view_is in
+    let its = c.of-methods.ensures ∙ ap (λ (o : OverSaid). row_at rows o.method) c.over.view_is in
     let row = ap (λ ns. joined_over kept A ns H) its ∙ row_same kept A H P rows c.args.over.now.method c.requires.over in
     let body_is = c.in_ok-body.ensures ∙ ap (λ (o : OverSaid). body_under P rel A o.method H) c.over.view_is in
     let low = low_both (joined_over kept A methods H) (joined_over kept A (overriding P c.args.over.now.method) H) _ c.args.over.now.most row (ap (λ (o : OverSaid). o.most) c.over.view_is) (c.requires.said.low H) in
