@@ -80,9 +80,9 @@ public class TwoLockQueue<E> {
         return count.get() == 0 ? "empty" : count.get() == capacity ? "full" : "partly filled";
     }
 
-    public boolean contains(Object o) { return toList().contains(o); } // refused: alarm: one toList() and local work
+    public boolean contains(Object o) { return toList().contains(o); } // accepted
 
-    public List<E> toList() { // refused: alarm: both locks held throughout (always in the same order), result is a fresh list
+    public List<E> toList() { // accepted
         putLock.lock();
         takeLock.lock();
         try {

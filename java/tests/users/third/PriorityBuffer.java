@@ -32,7 +32,7 @@ public final class PriorityBuffer<E> {
         } finally { lock.unlock(); }
     }
 
-    public E take() throws InterruptedException { // refused: alarm: the wait loop comes first, then pop in one piece
+    public E take() throws InterruptedException { // accepted
         lock.lockInterruptibly();
         try {
             while (n == 0) notEmpty.await();
@@ -40,7 +40,7 @@ public final class PriorityBuffer<E> {
         } finally { lock.unlock(); }
     }
 
-    public boolean tryOffer(E e) { // refused: alarm: it is one critical section when the lock is free
+    public boolean tryOffer(E e) { // accepted
         if (!lock.tryLock()) return false;
         try { return n < heap.length && push(e); } finally { lock.unlock(); }
     }
@@ -50,7 +50,7 @@ public final class PriorityBuffer<E> {
         try { return heap[0]; } finally { lock.unlock(); }
     }
 
-    public E exchange(E e) { // refused: alarm: compare, replace and return are under the lock
+    public E exchange(E e) { // accepted
         lock.lock();
         try {
             if (n == 0 || order.compare(e, heap[0]) <= 0) return e;
@@ -65,7 +65,7 @@ public final class PriorityBuffer<E> {
         return least != null && order.compare(least, bound) < 0 ? take() : null;
     }
 
-    public boolean moveOneTo(PriorityBuffer<E> other) { // refused: alarm: both locks are held
+    public boolean moveOneTo(PriorityBuffer<E> other) { // accepted
         PriorityBuffer<E> a = id < other.id ? this : other, b = a == this ? other : this;
         a.lock.lock();
         b.lock.lock();
@@ -77,14 +77,14 @@ public final class PriorityBuffer<E> {
         for (E e : drainSorted()) other.put(e);
     }
 
-    public List<E> drainSorted() { // refused: alarm: the whole loop is under the lock, into a private list
+    public List<E> drainSorted() { // accepted
         List<E> out = new ArrayList<>();
         lock.lock();
         try { while (n > 0) out.add(pop()); } finally { lock.unlock(); }
         return out;
     }
 
-    public List<E> sorted() { // refused: alarm: copied under the lock, sorted privately
+    public List<E> sorted() { // accepted
         E[] copy;
         lock.lock();
         try { copy = Arrays.copyOf(heap, n); } finally { lock.unlock(); }

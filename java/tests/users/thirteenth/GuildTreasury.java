@@ -84,7 +84,7 @@ public class GuildTreasury extends Treasury {
         return new Receipt(income, tax, taxRate);
     }
 
-    public void absorb(GuildTreasury other) { // refused: alarm: the expert sees no interruption
+    public void absorb(GuildTreasury other) { // accepted
         if (other == this) return;
         GuildTreasury first = this.id < other.id ? this : other;
         GuildTreasury second = first == this ? other : this;
@@ -101,7 +101,7 @@ public class GuildTreasury extends Treasury {
         }
     }
 
-    public String summary() { // refused: alarm: the expert sees no interruption
+    public String summary() { // accepted
         lock.lock();
         try {
             return motto + ": " + balance() + " gold, turnover " + turnover + ", given " + donations;

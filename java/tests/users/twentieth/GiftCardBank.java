@@ -36,7 +36,7 @@ public final class GiftCardBank {
         return cards.containsKey(code);
     }
 
-    public OptionalLong balance(String code) { // refused: alarm: retired is looked at again under the card's lock; a retired card is answered as just after its removal
+    public OptionalLong balance(String code) { // accepted
         Card card = cards.get(code);
         if (card == null) {
             return OptionalLong.empty();
@@ -108,7 +108,7 @@ public final class GiftCardBank {
     }
 
     /** Takes the card out of circulation and tells what was left on it. */
-    public long retire(String code) { // refused: alarm: flag and removal in one region of the card's lock, the removal is the moment of effect
+    public long retire(String code) { // accepted
         Card card = cards.get(code);
         if (card == null) {
             return 0;

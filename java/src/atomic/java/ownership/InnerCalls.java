@@ -61,9 +61,10 @@ final class InnerCalls {
             if (choice.kind() == Choice.Kind.WRITES) {
                 ways.change();
             }
-            if (shows(choice) || Views.givesItself(symbol)) {
+            if (shows(choice) || Views.givesItself(symbol) || results.mentionsEntry(attribution.type(call))) {
                 ways.go(call, true);
             }
+            entries(call);
             return;
         }
         functions(call).forEach(each -> {
@@ -92,6 +93,16 @@ final class InnerCalls {
             .anyMatch(each -> Uses.bare(each) instanceof MethodInvocationTree inner && attribution.element(inner) != null
                 && maps(inner) && program.method(attribution.element(inner)) == null
                 && attribution.element(inner).getEnclosingElement().toString().equals("java.util.stream.Collectors"));
+    }
+
+    /** A map's entries, which a function is called with, are parts of the map. */
+    private void entries(MethodInvocationTree call) {
+        for (ExpressionTree each : functions(call)) {
+            if (each instanceof LambdaExpressionTree lambda) {
+                lambda.getParameters().stream().map(attribution::element).filter(parameter -> parameter != null
+                    && results.mentionsEntry(parameter.asType())).forEach(parameter -> ways.follow(parameter, true));
+            }
+        }
     }
 
     /** A function that is called with what an object holds. */

@@ -184,12 +184,21 @@ final class InnerWays {
             calls.gives(lambda, itself);
         } else if (parent instanceof ArrayAccessTree access) {
             element(access, tree, itself);
-        } else if (parent instanceof EnhancedForLoopTree loop && !itself) {
-            followByType(attribution.element(loop.getVariable()));
+        } else if (parent instanceof EnhancedForLoopTree loop) {
+            walked(attribution.element(loop.getVariable()), itself);
         } else if (parent instanceof InstanceOfTree test && test.getPattern() instanceof com.sun.source.tree.BindingPatternTree bound) {
             follow(attribution.element(bound.getVariable()), itself);
         } else {
             otherwise(parent, tree, itself);
+        }
+    }
+
+    /** What a loop walks to: a thing, or what holds one; and an entry of a map that is the thing itself is a part of that. */
+    private void walked(Element variable, boolean itself) {
+        if (!itself) {
+            followByType(variable);
+        } else if (variable != null && new Results(attribution).mentionsEntry(variable.asType())) {
+            follow(variable, true);
         }
     }
 

@@ -164,6 +164,11 @@ final class Calls {
     /** What a field holds that others may know is touched by a method that is given it, whatever that method may assume. */
     private void expose(Value value, ExpressionTree given, VariableElement parameter) {
         boolean known = value instanceof Value.Owned || value instanceof Value.Fresh || services.immutable(given) != null;
+        if (parameter != null && !known && isFound(given) && services.uses().isAsked(parameter)) {
+            body.emit(services.doubt(Method.Doubt.OPEN, given.toString(), true, body, given, "object of others: other threads may"
+                + " know what is found here, which a method is given, so that counts as several steps"));
+            return;
+        }
         if (parameter == null || known || !(services.attribution().element(Uses.bare(given)) instanceof VariableElement field)
                 || !field.getKind().isField() || services.program().find(field.getEnclosingElement()) == null
                 || !services.program().library().hasContents(field.asType()) || !services.uses().isAsked(parameter)) {
@@ -171,6 +176,16 @@ final class Calls {
         }
         body.emit(services.doubt(Method.Doubt.OPEN, given.toString(), true, body, given, "object of others: other threads may"
             + " know what " + field.getSimpleName() + " holds, which a method is given here, so that counts as several steps"));
+    }
+
+    /** Whether an expression gives a collection or an array that an object holds: a part of a record, or what a collection gives. */
+    private boolean isFound(ExpressionTree given) {
+        return Uses.bare(given) instanceof MethodInvocationTree call && call.getMethodSelect() instanceof MemberSelectTree select
+            && services.attribution().element(call) instanceof ExecutableElement symbol
+            && (services.program().isAccessor(symbol) || services.program().method(symbol) == null
+                && symbol.getSimpleName().contentEquals("get") && services.attribution().element(Uses.bare(select.getExpression()))
+                    instanceof VariableElement field && field.getKind().isField())
+            && services.program().library().hasContents(services.attribution().type(call));
     }
 
     private void invoke(JavaMethod method, Value receiver, List<Value> arguments, Tree tree) {

@@ -45,7 +45,7 @@ final class FoundLooks {
                 || !services.uses().isSettled(local)) {
             return false;
         }
-        Sides sides = services.stable().isOnlyAddedTo(look) ? sides(all, local)
+        Sides sides = services.stable().isOnlyAddedTo(look) || new Retirals(services).covers(look, local, all) ? sides(all, local)
             : isFinder(services.program().method(services.attribution().element(look)))
                 ? new Sides(() -> { }, () -> statements.all(all.subList(1, all.size()))) : null;
         if (sides == null) {

@@ -10,9 +10,11 @@ import atomic.java.skeleton.Part;
 import atomic.java.skeleton.Value;
 import com.sun.source.tree.ExpressionTree;
 import com.sun.source.tree.Tree;
+import java.util.ArrayList;
 import java.util.Collection;
 import java.util.HashMap;
 import java.util.HashSet;
+import java.util.LinkedHashSet;
 import java.util.List;
 import java.util.Map;
 import java.util.Set;
@@ -30,6 +32,9 @@ final class LiveContents {
     private final Services services;
     /** The types of what is changed in each file. */
     private final Map<String, Set<TypeMirror>> changed = new HashMap<>();
+
+    private final Map<Field, Set<Method>> touching = new HashMap<>();
+    private final Map<Object, List<Method>> bodies = new HashMap<>();
 
     LiveContents(Services services) {
         this.services = services;
@@ -76,22 +81,35 @@ final class LiveContents {
     private void assume(VariableElement field, Tree at, Collection<Method> all) {
         if (services.fields().owns(field)) {
             Field contents = services.fields().contents(field).field();
-            all.stream().filter(each -> touches(each.body(), contents)).forEach(each ->
+            touching(all).getOrDefault(contents, Set.of()).forEach(each ->
                 services.program().notes().tell(Notes.Kind.ASSUMED, services.methods().origin(each), services.attribution().name(at),
                     "nobody touches what is within " + field.getSimpleName() + " by way of what gets out here"));
         }
     }
 
-    private static boolean touches(Part part, Field contents) {
-        return part instanceof Part.Access access && access.field() == contents
-            || part.parts().stream().anyMatch(each -> touches(each, contents));
+    /** By each field the methods that touch it. */
+    private Map<Field, Set<Method>> touching(Collection<Method> all) {
+        if (touching.isEmpty()) {
+            all.forEach(each -> touches(each.body(), each));
+        }
+        return touching;
+    }
+
+    private void touches(Part part, Method method) {
+        if (part instanceof Part.Access access) {
+            touching.computeIfAbsent(access.field(), key -> new LinkedHashSet<>()).add(method);
+        }
+        part.parts().forEach(each -> touches(each, method));
     }
 
     private void refuse(Tree at, JavaMethod method, Collection<Method> all) {
         Method way = services.blank("whoever is given what is found here", Method.Doubt.ANY);
         services.fill(way, true);
         services.hint(at, "object of others: what is found here gets out, so that others may touch it without any lock");
-        all.stream().filter(each -> services.methods().origin(each) == method).forEach(each ->
+        if (bodies.isEmpty()) {
+            all.forEach(each -> bodies.computeIfAbsent(services.methods().origin(each), key -> new ArrayList<>()).add(each));
+        }
+        bodies.getOrDefault(method, List.of()).forEach(each ->
             each.body(Part.sequence(List.of(each.body(), new Part.Call(new Value.Opaque(services.program().helpers()), way,
                 List.of(), services.attribution().name(at))))));
     }

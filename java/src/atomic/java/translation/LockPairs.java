@@ -3,18 +3,26 @@ package atomic.java.translation;
 import atomic.java.ownership.Uses;
 import atomic.java.skeleton.Part;
 import atomic.java.skeleton.Value;
+import com.sun.source.tree.AssignmentTree;
 import com.sun.source.tree.BinaryTree;
 import com.sun.source.tree.BlockTree;
 import com.sun.source.tree.ConditionalExpressionTree;
 import com.sun.source.tree.ExpressionTree;
 import com.sun.source.tree.MemberSelectTree;
+import com.sun.source.tree.MethodInvocationTree;
+import com.sun.source.tree.NewClassTree;
 import com.sun.source.tree.StatementTree;
 import com.sun.source.tree.SynchronizedTree;
 import com.sun.source.tree.Tree;
+import com.sun.source.tree.UnaryTree;
 import com.sun.source.tree.VariableTree;
+import com.sun.source.util.TreeScanner;
 import java.util.HashMap;
 import java.util.List;
 import java.util.Map;
+import java.util.Set;
+import javax.lang.model.element.ExecutableElement;
+import javax.lang.model.element.Modifier;
 import javax.lang.model.element.VariableElement;
 
 /**
@@ -23,6 +31,11 @@ import javax.lang.model.element.VariableElement;
  * nothing is done between the two, so the locks count under the names a and b.
  */
 final class LockPairs {
+    /** Comparisons of values that never change. */
+    private static final Set<String> COMPARING = Set.of("java.lang.String.compareTo", "java.lang.Long.compare",
+        "java.lang.Integer.compare", "java.lang.Long.compareTo", "java.lang.Integer.compareTo",
+        "java.lang.System.identityHashCode", "java.util.UUID.compareTo");
+
     private final Services services;
     private final Body body;
     private final Statements statements;
@@ -93,6 +106,11 @@ final class LockPairs {
         ExpressionTree b = Uses.bare(chosen.getFalseExpression());
         Object left = name(a);
         Object right = name(b);
+        if (left != null && right != null && !left.equals(right) && right.equals(name(rest.getTrueExpression()))
+                && left.equals(name(rest.getFalseExpression()))
+                && chosen.getCondition().toString().equals(rest.getCondition().toString()) && isFixed(chosen.getCondition())) {
+            return List.of(a, b);
+        }
         if (left == null || right == null || left.equals(right)
                 || !(Uses.bare(rest.getCondition()) instanceof BinaryTree compared)) {
             return List.of();
@@ -105,6 +123,28 @@ final class LockPairs {
         boolean sure = (equal || compared.getKind() == Tree.Kind.NOT_EQUAL_TO) && (left.equals(same) || right.equals(same))
             && same.equals(whereNot) && (left.equals(same) ? right : left).equals(whereSame);
         return sure ? List.of(a, b) : List.of();
+    }
+
+    /** Whether a condition tells the same each time: it compares locals and parameters that keep their values, and final fields. */
+    private boolean isFixed(ExpressionTree condition) {
+        boolean[] fixed = {true};
+        new TreeScanner<Void, Void>() {
+            @Override
+            public Void scan(Tree tree, Void nothing) {
+                if (tree instanceof ExpressionTree && services.attribution().element(tree) instanceof VariableElement variable
+                        && !Uses.isName(tree, "this")) {
+                    fixed[0] &= variable.getKind().isField() ? variable.getModifiers().contains(Modifier.FINAL)
+                        : services.uses().isSettled(variable);
+                } else if (tree instanceof MethodInvocationTree call) {
+                    fixed[0] &= services.attribution().element(call) instanceof ExecutableElement symbol
+                        && COMPARING.contains(symbol.getEnclosingElement() + "." + symbol.getSimpleName());
+                } else if (tree instanceof NewClassTree || tree instanceof AssignmentTree || tree instanceof UnaryTree) {
+                    fixed[0] = false;
+                }
+                return super.scan(tree, nothing);
+            }
+        }.scan(condition, null);
+        return fixed[0];
     }
 
     /** What a local or parameter is given, once and for all; null elsewhere. */

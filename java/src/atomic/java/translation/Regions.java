@@ -40,6 +40,9 @@ final class Regions {
         if (locks.isEmpty()) {
             return 0;
         }
+        if (both(statement, locks, rest)) {
+            return 2;
+        }
         int length = length(locks, rest);
         if (length == 0) {
             services.tell(Notes.Kind.APPROXIMATED, body, locks.get(0), "lock and unlock stand in no form that is known here,"
@@ -51,6 +54,26 @@ final class Regions {
             held(taken(locks), statement, () -> inside(locks, rest.subList(0, length))));
         behind(locks, rest.get(length - 1));
         return length;
+    }
+
+    /** Writes a region of two locks, which are taken one after the other, and given back in one {@code finally}; whether it is one. */
+    private boolean both(StatementTree statement, List<ExpressionTree> outer, List<? extends StatementTree> rest) {
+        List<ExpressionTree> inner = rest.size() < 2 || outer.size() != 1 ? List.of() : locking.operands(rest.get(0), TAKES);
+        if (inner.size() != 1 || !(rest.get(1) instanceof TryTree tried) || tried.getFinallyBlock() == null
+                || !tried.getResources().isEmpty() || tried.getFinallyBlock().getStatements().size() != 2) {
+            return false;
+        }
+        StatementTree one = tried.getFinallyBlock().getStatements().get(0);
+        StatementTree other = tried.getFinallyBlock().getStatements().get(1);
+        if (!(isRelease(one, inner) && isRelease(other, outer)) && !(isRelease(one, outer) && isRelease(other, inner))) {
+            return false;
+        }
+        new LockPairs(services, body, statements).named(outer.get(0), inner.get(0), () -> held(taken(outer), statement, () ->
+            held(taken(inner), rest.get(0), () -> {
+                statements.all(tried.getBlock().getStatements());
+                statements.catches(tried);
+            })));
+        return true;
     }
 
     /** The lock that the first statement of a region takes, where it takes one and nothing else stands in the region. */

@@ -59,6 +59,16 @@ record StableLooks(Services services) {
                     && services.uses().of(key).stream().allMatch(this::onlyAdds));
     }
 
+    /** Whether a class is one of the concurrent maps of the library. */
+    static boolean isConcurrent(String made) {
+        return MAPS.contains(String.valueOf(made));
+    }
+
+    /** Whether a call of such a name only looks into a map, or adds to it. */
+    static boolean onlyAdds(String name) {
+        return ONLY_ADDING.contains(name);
+    }
+
     private boolean onlyAdds(Tree use) {
         if (!(services.attribution().parent(use) instanceof MemberSelectTree select)
                 || !(services.attribution().parent(select) instanceof MethodInvocationTree call)) {
