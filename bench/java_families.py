@@ -9,11 +9,12 @@ seconds than --seconds is stopped.
 The families: classes in a folder; methods, fields and locks of one class; chains of private methods, with a lock at
 their beginning or their end; classes in a line, each of which calls the method above it; classes with one method's
 name; a class in one line; long regions; loops in loops that a branch leaves; one object under many names; stages of a
-stream; chained calls; functions in functions; helpers that are given functions; nested classes; static fields; methods
-that call each other in circles; callers of one method; classes of nodes that lead to each other; cases of a switch;
-branches in a row; terms of a sum; overloads; tasks; anonymous classes; classes that override one method; returns;
-tries; regions; locals that each lead on from the one before; elements of an array; constants with bodies; initialisers;
-streams that library objects keep; lists that methods give out.
+stream; chained calls; functions in functions; helpers that are given functions; nested classes; static fields; classes
+whose static methods call each other in a circle; methods that call each other in circles; callers of one method;
+classes of nodes that lead to each other; cases of a switch; branches in a row; terms of a sum; overloads; tasks;
+anonymous classes; classes that override one method; returns; tries; regions; locals that each lead on from the one
+before; elements of an array; constants with bodies; initialisers; streams that library objects keep; lists that methods
+give out.
 """
 import argparse
 import resource
@@ -173,6 +174,14 @@ def statics(n: int) -> str:
         n,
         lambda k: f"class C{k} {{ static int v; "
         f"static synchronized int m() {{ return v++ + C{(k + 1) % n}.v; }} }}",
+    )
+
+
+def reaching(n: int) -> str:
+    return rows(
+        n,
+        lambda k: f"class C{k} {{ static int v; "
+        f"static synchronized int m() {{ return v++ + C{(k + 1) % n}.m(); }} public int n() {{ return m(); }} }}",
     )
 
 
@@ -338,8 +347,8 @@ FAMILIES: dict[str, Family] = {
     each.__name__: each
     for each in (
         folder, methods, fields, locks, chain, chain_up, heirs, named, line, region, loops, aliases, stages, builder,
-        functions, helpers, nested, statics, mutual, callers, linked, cases, branches, sums, overloads, lambdas,
-        anonymous, overriding, returns, tries, regions, hops, elements, constants, starts,
+        functions, helpers, nested, statics, reaching, mutual, callers, linked, cases, branches, sums, overloads,
+        lambdas, anonymous, overriding, returns, tries, regions, hops, elements, constants, starts,
         streams, exits,
     )
 }  # fmt: skip

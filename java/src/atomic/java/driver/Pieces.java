@@ -70,10 +70,8 @@ final class Pieces {
         crowded = program.statics().fields().stream().filter(Field::used).count() > Limits.MOST_FINAL;
         narrow = crowded;
         frame = text(writer(), Set.of()).length();
-        Set<Method> whole = new LinkedHashSet<>();
-        roots.forEach(root -> reach(root, Set.of(), whole));
         Piece empty = new Piece();
-        if (aliases == null && empty.excess(new Growth(empty, whole)) > 0) {
+        if (aliases == null && empty.excess(growth(empty, roots)) > 0) {
             aliases = new Aliases();
             measures.clear();
             sizes.clear();
@@ -97,14 +95,12 @@ final class Pieces {
     Set<Method> next(BiPredicate<Set<Method>, Integer> cut) {
         Piece piece = new Piece();
         while (!waiting.isEmpty()) {
-            Set<Method> reached = new LinkedHashSet<>();
             Method root = waiting.peek();
-            reach(root, piece.methods, reached);
-            Growth more = new Growth(piece, reached);
+            Growth more = growth(piece, List.of(root));
             int excess = piece.excess(more);
             if (excess > 0 && !piece.methods.isEmpty()) {
                 break;
-            } else if (excess <= 0 || !cut.test(piece.crowds(more) ? Set.of(root) : reached, excess)) {
+            } else if (excess <= 0 || !cut.test(piece.crowds(more) ? Set.of(root) : more.methods, excess)) {
                 piece.add(more);
                 waiting.remove();
             }
@@ -141,15 +137,21 @@ final class Pieces {
         return roots.stream().sorted(Comparator.comparing(sizes::get).reversed()).toList();
     }
 
-    /** A method and all that it calls or overrides, and what overrides these, without those that are known before. */
-    private void reach(Method method, Set<Method> known, Set<Method> reached) {
-        List<Method> further = new ArrayList<>(List.of(method));
-        while (!further.isEmpty()) {
+    /**
+     * What methods bring to a piece, with all that they call or override, and what overrides these. Where they name too many
+     * classes' statics, it isn't looked at what else they bring.
+     */
+    private Growth growth(Piece piece, List<Method> roots) {
+        Growth growth = new Growth(piece.had);
+        List<Method> further = new ArrayList<>(roots);
+        while (!further.isEmpty() && !piece.crowds(growth)) {
             Method each = further.remove(further.size() - 1);
-            if (!known.contains(each) && reached.add(each)) {
+            if (!piece.methods.contains(each) && growth.methods.add(each)) {
+                growth.add(measure(each));
                 further.addAll(next(each));
             }
         }
+        return growth;
     }
 
     private List<Method> next(Method method) {
@@ -245,19 +247,18 @@ final class Pieces {
 
     /** What further methods bring to a text: their bytes, and those of the lines, classes and fields that it hasn't yet. */
     private final class Growth {
-        private final Set<Method> methods;
+        private final Set<Method> methods = new LinkedHashSet<>();
         private final Set<Object> had;
         private final Set<Object> further = new HashSet<>();
         private int bytes;
         private int statics;
 
-        Growth(Piece piece, Set<Method> methods) {
-            this.methods = methods;
-            had = piece.had;
-            methods.forEach(each -> add(measure(each)));
+        /** Of nothing yet; {@code had} has what the text has. */
+        Growth(Set<Object> had) {
+            this.had = had;
         }
 
-        private void add(Measure measure) {
+        void add(Measure measure) {
             bytes += measure.bytes();
             bytes += further(measure.somes()).mapToInt(line -> line.length() + SOME_BYTES).sum();
             bytes += further(measure.frame().shapes()).mapToInt(shape ->
