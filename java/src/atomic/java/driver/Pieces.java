@@ -32,7 +32,7 @@ import java.util.stream.Stream;
 final class Pieces {
 
     /** What names of locks may take besides, which get longer from one text to the next. */
-    private static final int SPARE_BYTES = 2048;
+    private static final int SPARE_BYTES = 1024;
 
     /** What a line among the helpers takes besides its words. */
     private static final int SOME_BYTES = 3;

@@ -8,7 +8,7 @@ import java.util.Map;
  * what further letters and digits it takes, as no word of an answer is.
  */
 public final class Aliases {
-    private static final int LETTERS = 26;
+    private static final String LETTERS = "abcdefghijklmnopqrstuvwxyzABCDEFGHIJKLMNOPQRSTUVWXYZ";
     private static final int DIGITS = 10;
 
     private final Map<String, String> aliases = new HashMap<>();
@@ -21,8 +21,8 @@ public final class Aliases {
 
     private String next(String name) {
         int number = aliases.size();
-        int rest = number / LETTERS;
-        String alias = (char) ('a' + number % LETTERS) + String.valueOf(rest % DIGITS)
+        int rest = number / LETTERS.length();
+        String alias = LETTERS.charAt(number % LETTERS.length()) + String.valueOf(rest % DIGITS)
             + (rest < DIGITS ? "" : Integer.toString(rest / DIGITS, Character.MAX_RADIX));
         names.put(alias, name);
         return alias;
@@ -49,11 +49,11 @@ public final class Aliases {
     }
 
     private static boolean isAlias(String line, int from, int to) {
-        return to - from >= 2 && line.charAt(from) >= 'a' && line.charAt(from) <= 'z' && isDigit(line.charAt(from + 1));
+        return to - from >= 2 && LETTERS.indexOf(line.charAt(from)) >= 0 && isDigit(line.charAt(from + 1));
     }
 
     private static boolean isOfWord(char letter) {
-        return letter >= 'a' && letter <= 'z' || letter >= 'A' && letter <= 'Z' || letter == '_' || isDigit(letter);
+        return LETTERS.indexOf(letter) >= 0 || letter == '_' || isDigit(letter);
     }
 
     private static boolean isDigit(char letter) {

@@ -28,19 +28,34 @@ public final class Text {
         return this;
     }
 
-    /** Whether lines begin without blanks. */
+    /** Whether lines begin without blanks, and have those alone that stand between two words. */
     void flat(boolean without) {
         flat = without;
     }
 
     public Text put(String words) {
-        text.append(words);
+        if (!flat) {
+            text.append(words);
+            return this;
+        }
+        for (int at = 0; at < words.length(); at++) {
+            if (words.charAt(at) != ' ' || parts(words, at)) {
+                text.append(words.charAt(at));
+            }
+        }
         return this;
+    }
+
+    /** Whether the blank at a place of {@code words} parts two words, as far as they tell. */
+    private static boolean parts(String words, int at) {
+        return (at == 0 || Character.isJavaIdentifierPart(words.charAt(at - 1)))
+            && (at + 1 == words.length() || Character.isJavaIdentifierPart(words.charAt(at + 1)));
     }
 
     /** Ends the line behind {@code words}. */
     public Text line(String words) {
-        text.append(words).append('\n');
+        put(words);
+        text.append('\n');
         starts = with(starts, lines++, text.length());
         return this;
     }
@@ -69,9 +84,13 @@ public final class Text {
         depth++;
     }
 
-    /** A line with the closing brace, and {@code words} behind it. */
+    /** A line with the closing brace, and {@code words} behind it. In a flat text it goes on with the line before. */
     public void close(String words) {
         depth--;
+        if (flat) {
+            text.setLength(text.length() - 1);
+            lines--;
+        }
         begin().line("}" + words);
     }
 

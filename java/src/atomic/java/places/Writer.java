@@ -31,9 +31,11 @@ public final class Writer {
         this.library = library;
     }
 
-    /** With short names and without indentation, which are most of a long text's bytes. */
+    /** With short names, and without the blanks that part no two words: these are most of a long text's bytes. */
     public Writer brief(Aliases shortNames) {
         aliases = shortNames;
+        // The first alias is the shortest, and this class is named most.
+        aliases.of(library.name());
         text.flat(true);
         return this;
     }
@@ -173,8 +175,8 @@ public final class Writer {
 
     private void either(Part.Either either) {
         text.begin().open("if (false)");
-        part(either.left());
-        if (!either.right().isNothing()) {
+        part(either.left().isNothing() ? either.right() : either.left());
+        if (!either.left().isNothing() && !either.right().isNothing()) {
             text.close(" else {");
             text.deeper();
             part(either.right());
