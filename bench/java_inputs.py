@@ -172,11 +172,18 @@ def is_there(process: str) -> bool:
     return True
 
 
+def hear_signals() -> None:
+    """Ignores none of these signals. A shell's commands in the background ignore SIGINT, and hand that on."""
+    for number in SIGNALS:
+        signal.signal(number, signal.SIG_DFL)
+
+
 def stopped(number: signal.Signals, folder: Path, program: Path) -> str:
     """What is wrong where a signal stops a run that waits for its checker: it ends, and so does the checker."""
     asked, before = folder / "asked", set(os.listdir(folder))
     environment = dict(os.environ, ATOMIC_WHY=str(folder / "slow"))
-    with subprocess.Popen([str(program), "good.java"], cwd=folder, env=environment, stdout=subprocess.DEVNULL) as run:
+    words, nowhere = [str(program), "good.java"], subprocess.DEVNULL
+    with subprocess.Popen(words, cwd=folder, env=environment, stdout=nowhere, preexec_fn=hear_signals) as run:
         end = time.monotonic() + MOST_SECONDS
         while not (asked.exists() and asked.read_text()) and time.monotonic() < end:
             time.sleep(0.05)
