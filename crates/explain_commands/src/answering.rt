@@ -26,7 +26,6 @@ use explain::{Shown, Walk, keep_strictly};
 use places::{LineIndex, methods_in};
 use sources::{Ending, Source, SourceEnd, text_of, tree_of, well_formed};
 use std::alloc::{AllocError as NoMemory, Global};
-use std::mem::forget;
 use syntax::{Member, Program};
 
 /// How it ended, and the text that is written.
@@ -34,16 +33,6 @@ use syntax::{Member, Program};
 pub struct Said {
     pub ending: Ending,
     pub text: String,
-}
-
-/// Gives memory back, but for that of the only file: to give it back node by node takes as long as a tenth of all that
-/// `check` does, and the program ends behind it.
-fn give_back<T: Drop>(value: T, is_only: bool) {
-    if is_only {
-        forget(value);
-    } else {
-        drop(value);
-    }
 }
 
 /// The text that is asked for.
@@ -149,7 +138,6 @@ fn answered_tree<'a>(
     file: &str,
     text: &'a str,
     tree: &Program<'a>,
-    is_only: bool,
 ) -> Result<Said, SourceEnd>
     requires small { length text.now ≤ longest_source }
     requires program { IsProgram text.now (tree_of tree.now) }
@@ -157,43 +145,27 @@ fn answered_tree<'a>(
 {
     let index = LineIndex::new(alloc, text)?;
     let source = well_formed(alloc, text, tree)?;
-    let said = judged(alloc, order, file, &index, tree, &source);
-    give_back(source, is_only);
-    Ok(said?)
+    let said = judged(alloc, order, file, &index, tree, &source)?;
+    Ok(said)
 }
 
 /// What is said of bytes, or why they are no well-formed source.
 #[tactic(auto, using(sources::proofs::Told::refused_source))]
-fn answered(
-    alloc: Global,
-    order: Order,
-    file: &str,
-    bytes: &[u8],
-    is_only: bool,
-) -> Result<Said, SourceEnd>
+fn answered(alloc: Global, order: Order, file: &str, bytes: &[u8]) -> Result<Said, SourceEnd>
     requires { length bytes.now ≤ longest_source }
     ensures { MatchResult result (λ said. ExplainAnswer order file.now bytes.now said.ending (string_bytes said.text)) (IsRightEnd (NoSource bytes.now)) }
 {
     let text = text_of(bytes)?;
     let tree = tree_of(alloc, text)?;
-    let said = answered_tree(alloc, order, file, text, &tree, is_only);
-    give_back(tree, is_only);
-    said
+    answered_tree(alloc, order, file, text, &tree)
 }
 
-/// How it ends, and the text that is written, for the bytes of a file of this name. Where it is the only one, the memory of its
-/// tree and of its core program is given back when the program ends.
-pub fn explain(
-    alloc: Global,
-    order: Order,
-    file: &str,
-    bytes: &[u8],
-    is_only: bool,
-) -> Result<Said, NoMemory>
+/// How it ends, and the text that is written, for the bytes of a file of this name.
+pub fn explain(alloc: Global, order: Order, file: &str, bytes: &[u8]) -> Result<Said, NoMemory>
     requires { length bytes.now ≤ longest_source }
     ensures { IfOk result (λ said. ExplainAnswer order file.now bytes.now said.ending (string_bytes said.text)) }
 {
-    match answered(alloc, order, file, bytes, is_only) {
+    match answered(alloc, order, file, bytes) {
         Ok(said) => Ok(said),
         Err(SourceEnd::Fault(place, fault)) => Ok(Said {
             ending: Ending::Refused,

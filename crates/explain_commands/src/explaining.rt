@@ -82,9 +82,6 @@ fn add_block<A: Assigned>(
     write_arranged(text, &page, walk, over, known.as_slice(), x)
 }
 
-/// How many bytes are asked for to begin with, for the lines of each method.
-const BLOCK_ROOM: usize = 512;
-
 /// The lines of these methods, one after the other.
 fn lines_of<A: Assigned>(
     told: &Told<'_, '_, '_>,
@@ -97,11 +94,10 @@ fn lines_of<A: Assigned>(
         (page_of told.now.file.now told.now.index.now (table_data told.now.source.now.table) (map (λ m. member_of m.now) told.now.methods.now.items))
         (row_at over.now) (map arranged_data all.now) (string_bytes text)) }
 {
+    let mut text = String::new(walk.alloc);
     if all.is_empty() {
-        let text = String::new(walk.alloc);
         return Ok(text);
     }
-    let mut text = String::with_capacity(walk.alloc, all.len().saturating_mul(BLOCK_ROOM))?;
     let mut finals = FinalFields::of(walk.alloc, walk.program)?;
     for x in all {
         add_block(told, walk, &mut finals, over, x, &mut text)?;

@@ -1,6 +1,6 @@
 //! The top call of the program.
 
-ghost use Rattle.std.specs.Prelude.{◌≡◌, ◌⊎◌, ◌≤◌, ◌+◌, ◌++◌, ℕ, List, length, map, IfOk, OnOk, string_bytes};
+ghost use Rattle.std.specs.Prelude.{◌≡◌, ◌⊎◌, ◌≤◌, ◌+◌, ◌++◌, ℕ, List, length, map, IfOk, string_bytes};
 ghost use Rattle.std.specs.Io.KnownBytes.{Appends, Keeps};
 ghost use Rattle.lexer.specs.Limits.{longest_source};
 ghost use Rattle.sources.specs.Files.{HasSameFaults, IsUnread, IsOver, WritesText, WritesFrontOf};
@@ -37,7 +37,6 @@ fn perform<F: Folder>(
     folder: &mut F,
     order: Order,
     name: &str,
-    is_only: bool,
 ) -> Result<Outcome, NoMemory>
     ensures outcome { IfOk result (λ o. IsExplainOutcome order name.now (F.told folder.old) (F.faults folder.old) (F.faults folder.new) o.status (string_bytes o.text)) }
     ensures told { (other : List ℕ) → F.told folder.new other ≡ F.told folder.old other }
@@ -46,7 +45,7 @@ fn perform<F: Folder>(
 {
     match read_file(alloc, folder, name, LARGEST_SOURCE) {
         Ok(bytes) => {
-            let said = explain(alloc, order, name, bytes.as_slice(), is_only)?;
+            let said = explain(alloc, order, name, bytes.as_slice())?;
             Ok(Outcome {
                 status: said.ending.code(),
                 text: said.text,
@@ -64,24 +63,12 @@ fn perform<F: Folder>(
     }
 }
 
-/// Adds lines to a text, and copies none of them where they are the first.
-fn append(text: &mut String, lines: String) -> Result<(), NoMemory>
-    ensures { OnOk result (string_bytes text.new ≡ string_bytes text.old ++ string_bytes lines) }
-{
-    if text.is_empty() {
-        *text = lines;
-        return Ok(());
-    }
-    text.push_str(lines.as_str())
-}
-
 /// Adds the lines of a file, and gives its status.
 fn add_lines<F: Folder>(
     alloc: Global,
     folder: &mut F,
     order: Order,
     name: &str,
-    is_only: bool,
     text: &mut String,
 ) -> Result<u8, NoMemory>
     ensures outcome { IfOk result (λ status. (lines : List ℕ) × IsExplainOutcome order name.now (F.told folder.old) (F.faults folder.old) (F.faults folder.new) status lines
@@ -90,12 +77,9 @@ fn add_lines<F: Folder>(
     ensures never_fall { (other : List ℕ) → F.faults folder.old other ≤ F.faults folder.new other }
     ensures opened { F.opened folder.new ≤ F.opened folder.old + 1 }
 {
-    let Outcome {
-        status,
-        text: lines,
-    } = perform(alloc, folder, order, name, is_only)?;
-    append(text, lines)?;
-    Ok(status)
+    let outcome = perform(alloc, folder, order, name)?;
+    text.push_str(outcome.text.as_str())?;
+    Ok(outcome.status)
 }
 
 /// Reads files, one after the other, and makes the lines of all.
@@ -109,10 +93,9 @@ fn perform_all<F: Folder>(
     ensures opened { F.opened folder.new ≤ F.opened folder.old + length names.now }
 {
     let mut status = 0;
-    let is_only = names.len() == 1;
     let mut text = String::new(alloc);
     for name in names {
-        let next = add_lines(alloc, folder, order, name.as_str(), is_only, &mut text)?;
+        let next = add_lines(alloc, folder, order, name.as_str(), &mut text)?;
         status = worse(status, next);
     }
     Ok(Outcome { status, text })

@@ -17,7 +17,7 @@ loop-x-init g c =
     record {
       texts = none_so_far (program_of walk.program.now) (rel_of walk.sets.now) (g.A.Assigned.assigned walk.assigned.now)
           (page_of told.file.now told.index.now (table_data told.source.now.table) (map (λ m. member_of m.now) told.methods.now.items)) (row_at c.args.over.now)
-          c.args.all.now (string_bytes c.in_ok-text.text) c.in_ok-text.ensures.bytes;
+          c.args.all.now (string_bytes c.new-text.result) c.new-text.ensures.bytes;
       finals = c.in_ok-finals.ensures;
     }
 
